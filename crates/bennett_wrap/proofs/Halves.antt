@@ -15,7 +15,7 @@ use Rattle.image_inverter.specs.pisa_isa.declared.cell.Cell.{Cell}
 use Rattle.image_inverter.specs.pisa_isa.declared.machine.Stop.{Stop}
 use Rattle.image_inverter.specs.pisa_isa.declared.machine.Stop.TheVariants.{Finished, Trap, Bound}
 use Rattle.image_inverter.specs.pisa_isa.Table.{inverse_of}
-use Rattle.image_inverter.specs.pisa_isa.Machine.{State, IsState, fetch, stop, stop_at, stop_in, next, turned}
+use Rattle.image_inverter.specs.pisa_isa.Machine.{State, IsState, fetch, stop, stop_at, stop_in, next, turned_state}
 use Rattle.image_inverter.specs.pisa_isa.Image.{Segments, IsImage, is_start, is_finish, is_start_op, is_finish_op, start_of}
 use Rattle.image_inverter.specs.pisa_isa.Runs.{End, run, steps, visited, zero_registers, counted, made_in, after_step, before_step}
 use Rattle.image_inverter.specs.pisa_isa.Runs.{later, stop_at_bound}
@@ -35,8 +35,8 @@ use Rattle.image_inverter.proofs.pisa_isa_laws.Ends.{Stands, start_stands, finis
 use Rattle.image_inverter.proofs.pisa_isa_laws.Ends.{stops_at_finish}
 use Rattle.paired_code.specs.code_conventions.Cells.{bra}
 use Rattle.paired_code.specs.Layout.{between}
-use Rattle.bennett_wrap.specs.Wrapped.{copied_at, entered_at, finish_of, wrapped_code, begun_on, HasRoom, with_zeros}
-use Rattle.bennett_wrap.specs.Wrapped.{values_at, FinishesWith, TrapsWith, Computes, steps_wrapped, Wrapped}
+use Rattle.bennett_wrap.specs.Wrapped.{copied_at, entered_at, finish_of, wrapped_code, begun_on, HasWrapSpace, with_zeros}
+use Rattle.bennett_wrap.specs.Wrapped.{values_at, WrapFinishesWith, WrapTrapsWith, Computes, steps_wrapped, Wrapped}
 use Rattle.bennett_wrap.proofs.Carried.{carried, IsNoAddressAt, stops_carried}
 use Rattle.bennett_wrap.proofs.Walks.{Finishing, walk, walk_back}
 use Rattle.bennett_wrap.proofs.Rows.{on, AllBelow, then_steps, copy_runs}
@@ -163,9 +163,9 @@ module _ (image : Segments) (i : IsImage image) (cs : List ℕ) (small : length 
   ahead_begins a bound narrow k e = ap (λ j. steps all j (begun_on all (with_zeros a cs))) (sym e)
       ∙ ahead_steps a bound narrow
 
-  pub traps : (a : List ℕ) (bound enough w : ℕ) → HasRoom a cs → MeetsEndsOnce code bound (begun_on code a)
+  pub traps : (a : List ℕ) (bound enough w : ℕ) → HasWrapSpace a cs → MeetsEndsOnce code bound (begun_on code a)
       → (run code bound (begun_on code a)).why ≡ Trap w → (run code bound (begun_on code a)).spent ≤ enough
-      → TrapsWith (run all enough (begun_on all (with_zeros a cs))) w (run code bound (begun_on code a)).spent
+      → WrapTrapsWith (run all enough (begun_on all (with_zeros a cs))) w (run code bound (begun_on code a)).spent
       (length a) (length cs)
   traps a bound enough w room narrow why le =
       let m = begun_on code a in
@@ -188,7 +188,7 @@ module _ (image : Segments) (i : IsImage image) (cs : List ℕ) (small : length 
             ∙ drop_all e.last.cells zeros (length a) (length-run code bound m);
       }
 
-  pub goes_on : (a : List ℕ) (bound : ℕ) → HasRoom a cs → MeetsEndsOnce code bound (begun_on code a)
+  pub goes_on : (a : List ℕ) (bound : ℕ) → HasWrapSpace a cs → MeetsEndsOnce code bound (begun_on code a)
       → (run code bound (begun_on code a)).why ≡ Bound
       → (run all bound (begun_on all (with_zeros a cs))).why ≡ Bound
   goes_on a bound room narrow why =
@@ -216,7 +216,7 @@ module _ (image : Segments) (i : IsImage image) (cs : List ℕ) (small : length 
       let m = begun_on code a in
       let s = start_stands code i.one_start in
       let c = s.cell in
-      let u : State = mirrored n (turned m) in
+      let u : State = mirrored n (turned_state m) in
       let first = (begun code zero_registers a s).first in
       let is : met n (next code m) ≡ u = ap (met n) first ∙ ap (mirrored n) (moved-twice m) in
       let no : is_start (inverse_of c) ≡ false = is_start-inverse_op c.op ∙ start_no_finish c.op s.is in
@@ -252,9 +252,9 @@ module _ (image : Segments) (i : IsImage image) (cs : List ℕ) (small : length 
       place_flipped : (n f : ℕ) → f < n → pos (n - 1 - f) ≡ (pos n -ℤ pos 1) -ℤ pos f
       place_flipped n f h = omega (arith, ints)
 
-  pub finishes : (a : List ℕ) (bound enough : ℕ) → HasRoom a cs → Computes code bound a
+  pub finishes : (a : List ℕ) (bound enough : ℕ) → HasWrapSpace a cs → Computes code bound a
       → steps_wrapped (run code bound (begun_on code a)).spent cs ≤ enough
-      → FinishesWith (run all enough (begun_on all (with_zeros a cs)))
+      → WrapFinishesWith (run all enough (begun_on all (with_zeros a cs)))
       (steps_wrapped (run code bound (begun_on code a)).spent cs)
       (a ++ values_at (run code bound (begun_on code a)).last.cells cs)
   finishes a zero enough room h le = absurd (bound_is_not (fetch code (begun_on code a).pc) (begun_on code a).pc

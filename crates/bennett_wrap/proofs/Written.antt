@@ -22,13 +22,13 @@ use Rattle.image_inverter.specs.pisa_isa.Flipped.{flipped}
 use Rattle.image_inverter.proofs.pisa_isa_laws.Sealed.{accepted_by_seal}
 use Rattle.image_inverter.proofs.pisa_isa_laws.Flips.{length-flipped}
 use Rattle.paired_code.specs.code_conventions.Cells.{bra}
-use Rattle.paired_code.specs.Cells.{start, finish}
+use Rattle.paired_code.specs.Cells.{start_cell, finish}
 use Rattle.paired_code.specs.Machine.{is_single}
 use Rattle.paired_code.specs.Layout.{between}
 use Rattle.paired_code.specs.Link.{linked, link_code, link_size}
 use Rattle.paired_code.specs.declared.part.Symbol.{Symbol}
-use Rattle.bennett_wrap.specs.Copying.{find_cells, copy_one, copies, ending_cells, copy_cells, own, IsPlain}
-use Rattle.bennett_wrap.specs.Wrapped.{inner, left_by, entered_by, copied_at, entered_at, finish_of, joined}
+use Rattle.bennett_wrap.specs.Copying.{find_cells, copy_one, copies, ending_cells, copied_cells, own_symbol, IsPlainCell}
+use Rattle.bennett_wrap.specs.Wrapped.{inner, left_by, entered_by, copied_at, entered_at, finish_of, code_joined}
 use Rattle.bennett_wrap.specs.Wrapped.{wrapped_code, Wrapped}
 use Rattle.bennett_wrap.proofs.Places.{length-copy, length-joined}
 use Rattle.bennett_wrap.proofs.Counts.{cells_copy, IsImage-joined}
@@ -87,28 +87,28 @@ single_copies [] = All-nil (λ c. is_single c ≡ true)
 single_copies (c ∷ cs) = All-append (λ c. is_single c ≡ true) (copy_one c) (copies cs)
     (all_single (copy_one c) (refl, (refl, (refl, (refl, (refl, (refl, (refl, (refl, tt))))))))) (single_copies cs)
 
-single_copy : (cs : List ℕ) → All (λ c. is_single c ≡ true) (copy_cells cs)
+single_copy : (cs : List ℕ) → All (λ c. is_single c ≡ true) (copied_cells cs)
 single_copy cs =
     All-append (λ c. is_single c ≡ true) (find_cells ++ copies cs) (ending_cells (length cs))
     (All-append (λ c. is_single c ≡ true) find_cells (copies cs)
     (all_single find_cells (refl, (refl, (refl, (refl, (refl, tt)))))) (single_copies cs))
     (all_single (ending_cells (length cs)) (refl, (refl, (refl, (refl, (refl, (refl, tt)))))))
 
-pub plain_copy : (cs : List ℕ) → All IsWord cs → All IsPlain (copy_cells cs)
+pub plain_copy : (cs : List ℕ) → All IsWord cs → All IsPlainCell (copied_cells cs)
 plain_copy cs h = λ k d l. record { single = single_copy cs k d l; cell = cells_copy cs h k d l }
 
-linked_own : (rs : List ℕ) (a : ℕ) (row : List Cell) → linked rs a (map own row) ≡ row
+linked_own : (rs : List ℕ) (a : ℕ) (row : List Cell) → linked rs a (map own_symbol row) ≡ row
 linked_own rs a [] = refl
 linked_own rs a (c ∷ row) = ap (λ l. c ∷ l) (linked_own rs (a + 1) row)
 
 pub linked_row : (row : List Cell) (main : List Symbol) (code : List Cell) → code ≡ link_code main []
-    → main ≡ map own row → code ≡ start ∷ (row ++ finish ∷ [])
+    → main ≡ map own_symbol row → code ≡ start_cell ∷ (row ++ finish ∷ [])
 linked_row row main code e m = e ∙ ap (λ p. link_code p []) m
-    ∙ ap (λ l. start ∷ (l ++ finish ∷ [])) (linked_own [] 1 row)
+    ∙ ap (λ l. start_cell ∷ (l ++ finish ∷ [])) (linked_own [] 1 row)
 
-pub small_row : (cs : List ℕ) (row : List Cell) (main : List Symbol) → length cs ≤ MOST_COPIED → row ≡ copy_cells cs
-    → main ≡ map own row → link_size main [] ≤ MOST_CELLS
-small_row cs row main few e m = let a : length main ≡ 11 + 8 * length cs = ap length m ∙ length-map row own
+pub small_row : (cs : List ℕ) (row : List Cell) (main : List Symbol) → length cs ≤ MOST_COPIED → row ≡ copied_cells cs
+    → main ≡ map own_symbol row → link_size main [] ≤ MOST_CELLS
+small_row cs row main few e m = let a : length main ≡ 11 + 8 * length cs = ap length m ∙ length-map row own_symbol
     ∙ ap length e ∙ length-copy cs in omega arith
 
 -- the cells between START and FINISH
@@ -116,11 +116,11 @@ small_row cs row main few e m = let a : length main ≡ 11 + 8 * length cs = ap 
 take_all : (xs ys : List Cell) (n : ℕ) → length xs ≡ n → take n (xs ++ ys) ≡ xs
 take_all xs ys n e = ap (λ k. take k (xs ++ ys)) (sym e) ∙ take-append_seam xs ys
 
-pub inner_is : (row : List Cell) → inner (start ∷ (row ++ finish ∷ [])) ≡ row
+pub inner_is : (row : List Cell) → inner (start_cell ∷ (row ++ finish ∷ [])) ≡ row
 inner_is row =
-    let n : length (start ∷ (row ++ finish ∷ [])) - 1 ≡ suc (length row) =
+    let n : length (start_cell ∷ (row ++ finish ∷ [])) - 1 ≡ suc (length row) =
     omega (arith, length-append row (finish ∷ [])) in
-    ap (λ k. drop 1 (take k (start ∷ (row ++ finish ∷ [])))) n ∙ take_all row (finish ∷ []) (length row) refl
+    ap (λ k. drop 1 (take k (start_cell ∷ (row ++ finish ∷ [])))) n ∙ take_all row (finish ∷ []) (length row) refl
 
 -- the wrapped code
 
@@ -160,7 +160,7 @@ words_of cs h = λ k d l. subst IsWord (sym (get_or_default_zero cs k d l)) (Fit
 pub joined_built : (code code1 code2 copy : List Cell) (n f : ℕ) (cs : List ℕ) (a0 a1 a2 a3 a4 a5 : List Cell)
     (j1 j2 j3 j4 : Cell)
     → code1 ≡ code → code2 ≡ flipped code → n ≡ length code → f ≡ finish_of code
-    → copy ≡ start ∷ (copy_cells cs ++ finish ∷ [])
+    → copy ≡ start_cell ∷ (copied_cells cs ++ finish ∷ [])
     → a0 ≡ [] → j1 ≡ bra (between f n) → a1 ≡ a0 ++ map (left_by j1) code1
     → j2 ≡ bra (between n f) → a2 ≡ a1 ++ j2 ∷ []
     → a3 ≡ a2 ++ inner copy
@@ -168,22 +168,22 @@ pub joined_built : (code code1 code2 copy : List Cell) (n f : ℕ) (cs : List �
     → j4 ≡ bra (between (entered_at n f cs) (copied_at n cs)) → a5 ≡ a4 ++ map (entered_by j4) code2
     → a5 ≡ wrapped_code code cs
 joined_built code code1 code2 copy n f cs a0 a1 a2 a3 a4 a5 j1 j2 j3 j4 c1 c2 nn ff cp e0 k1 e1 k2 e2 e3 k3 e4 k4 e5 =
-    let i : inner copy ≡ copy_cells cs = ap inner cp ∙ inner_is (copy_cells cs) in
+    let i : inner copy ≡ copied_cells cs = ap inner cp ∙ inner_is (copied_cells cs) in
     let b1 : a1 ≡ map (left_by (bra (between f n))) code = e1 ∙ ap (λ x. x ++ map (left_by j1) code1) e0
     ∙ ap (λ j. map (left_by j) code1) k1 ∙ ap (map (left_by (bra (between f n)))) c1 in
     let b2 : a2 ≡ map (left_by (bra (between f n))) code ++ bra (between n f) ∷ [] = e2 ∙ ap (λ x. x ++ j2 ∷ []) b1
     ∙ ap (λ j. map (left_by (bra (between f n))) code ++ j ∷ []) k2 in
-    let b3 : a3 ≡ map (left_by (bra (between f n))) code ++ bra (between n f) ∷ [] ++ copy_cells cs = e3
+    let b3 : a3 ≡ map (left_by (bra (between f n))) code ++ bra (between n f) ∷ [] ++ copied_cells cs = e3
     ∙ ap (λ x. x ++ inner copy) b2 ∙ ap (λ x. map (left_by (bra (between f n))) code ++ bra (between n f) ∷ [] ++ x)
     i in
     let b4 : a4 ≡ map (left_by (bra (between f n))) code ++ bra (between n f)
-    ∷ [] ++ copy_cells cs ++ bra (between (copied_at n cs) (entered_at n f cs)) ∷ [] =
+    ∷ [] ++ copied_cells cs ++ bra (between (copied_at n cs) (entered_at n f cs)) ∷ [] =
     e4 ∙ ap (λ x. x ++ j3 ∷ []) b3 ∙ ap (λ j. map (left_by (bra (between f n))) code ++ bra (between n f)
-    ∷ [] ++ copy_cells cs ++ j ∷ []) k3 in
-    let b5 : a5 ≡ joined code n f cs =
+    ∷ [] ++ copied_cells cs ++ j ∷ []) k3 in
+    let b5 : a5 ≡ code_joined code n f cs =
     e5 ∙ ap (λ x. x ++ map (entered_by j4) code2) b4 ∙ ap
     (λ m. map (left_by (bra (between f n))) code ++ bra (between n f)
-    ∷ [] ++ copy_cells cs ++ bra (between (copied_at n cs) (entered_at n f cs)) ∷ [] ++ m)
+    ∷ [] ++ copied_cells cs ++ bra (between (copied_at n cs) (entered_at n f cs)) ∷ [] ++ m)
     (ap (λ j. map (entered_by j) code2) k4 ∙ ap (map (entered_by
     (bra (between (entered_at n f cs) (copied_at n cs))))) c2) in
-    b5 ∙ ap (λ x. joined code x f cs) nn ∙ ap (λ x. joined code (length code) x cs) ff
+    b5 ∙ ap (λ x. code_joined code x f cs) nn ∙ ap (λ x. code_joined code (length code) x cs) ff

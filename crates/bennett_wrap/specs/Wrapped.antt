@@ -14,7 +14,7 @@ use Rattle.image_inverter.specs.pisa_isa.Flipped.{flipped}
 use Rattle.image_inverter.specs.pisa_isa.declared.fixed.TheConstants.{END_CELL}
 use Rattle.paired_code.specs.code_conventions.Cells.{bra}
 use Rattle.paired_code.specs.Layout.{between}
-use Rattle.bennett_wrap.specs.Copying.{copy_cells}
+use Rattle.bennett_wrap.specs.Copying.{copied_cells}
 
 -- ---- the cells
 
@@ -43,16 +43,16 @@ abbrev pub entered_at : (n f : ℕ) → List ℕ → ℕ
 entered_at n f cells = copied_at n cells + 1 + (n - 1 - f)
 
 -- the code, the copy code and the flipped code, joined by two pairs of branches
-abbrev pub joined : List Cell → (n f : ℕ) → List ℕ → List Cell
-joined code n f cells =
+abbrev pub code_joined : List Cell → (n f : ℕ) → List ℕ → List Cell
+code_joined code n f cells =
     map (left_by (bra (between f n))) code
     ++ bra (between n f) ∷ []
-    ++ copy_cells cells
+    ++ copied_cells cells
     ++ bra (between (copied_at n cells) (entered_at n f cells)) ∷ []
     ++ map (entered_by (bra (between (entered_at n f cells) (copied_at n cells)))) (flipped code)
 
 abbrev pub wrapped_code : List Cell → List ℕ → List Cell
-wrapped_code code cells = joined code (length code) (finish_of code) cells
+wrapped_code code cells = code_joined code (length code) (finish_of code) cells
 
 -- the cells between the first and the last one
 abbrev pub inner : List Cell → List Cell
@@ -70,7 +70,7 @@ run_on code bound cells = run code bound (begun_on code cells)
 
 -- Memory for which the copy code is made: cell 4 holds the number of its cells, and each copied
 -- cell is one of them. That many addresses are left after it.
-pub record HasRoom (a cells : List ℕ) : Type 0 where
+pub record HasWrapSpace (a cells : List ℕ) : Type 0 where
   pub words : All IsWord a
   pub counted : slice_get a END_CELL ≡ Some (length a)
   pub among : All (λ c. c < length a) cells
@@ -85,14 +85,14 @@ abbrev pub values_at : List ℕ → List ℕ → List ℕ
 values_at b cells = map (slice_index b) cells
 
 -- the run finished in so many steps, with zero registers and these cells
-pub record FinishesWith (e : End) (count : ℕ) (cells : List ℕ) : Type 0 where
+pub record WrapFinishesWith (e : End) (count : ℕ) (cells : List ℕ) : Type 0 where
   pub why : e.why ≡ Finished
   pub spent : e.spent ≡ count
   pub registers : e.last.regs ≡ zero_registers
   pub memory : e.last.cells ≡ cells
 
 -- the run trapped after so many steps, and from cell n on there are so many zeros
-pub record TrapsWith (e : End) (w count n zeros : ℕ) : Type 0 where
+pub record WrapTrapsWith (e : End) (w count n zeros : ℕ) : Type 0 where
   pub why : e.why ≡ Trap w
   pub spent : e.spent ≡ count
   pub results : drop n e.last.cells ≡ replicate zeros 0
@@ -115,18 +115,18 @@ steps_wrapped n cells = 2 * n + 13 + 8 * length cells
 -- what the wrapped code does on a memory followed by zeros, by what the code does on the memory
 pub record Wrapped (code : List Cell) (cells : List ℕ) (wrapped : List Cell) : Type 0 where
   -- if the run finishes, the wrapped run finishes with the first memory, followed by the results
-  pub finishes : (a : List ℕ) (bound enough : ℕ) → HasRoom a cells → Computes code bound a
+  pub finishes : (a : List ℕ) (bound enough : ℕ) → HasWrapSpace a cells → Computes code bound a
       → steps_wrapped (run_on code bound a).spent cells ≤ enough
-      → FinishesWith (run_on wrapped enough (with_zeros a cells))
+      → WrapFinishesWith (run_on wrapped enough (with_zeros a cells))
       (steps_wrapped (run_on code bound a).spent cells)
       (a ++ values_at (run_on code bound a).last.cells cells)
   -- if it traps, the wrapped run does so in as many steps, and nothing is copied
-  pub traps : (a : List ℕ) (bound enough w : ℕ) → HasRoom a cells → IsNarrow code bound a
+  pub traps : (a : List ℕ) (bound enough w : ℕ) → HasWrapSpace a cells → IsNarrow code bound a
       → (run_on code bound a).why ≡ Trap w → (run_on code bound a).spent ≤ enough
-      → TrapsWith (run_on wrapped enough (with_zeros a cells)) w (run_on code bound a).spent
+      → WrapTrapsWith (run_on wrapped enough (with_zeros a cells)) w (run_on code bound a).spent
       (length a) (length cells)
   -- if it is not over after so many steps, the wrapped run is not over after so many; so if
   -- it never ends, neither does that
-  pub goes_on : (a : List ℕ) (bound : ℕ) → HasRoom a cells → IsNarrow code bound a
+  pub goes_on : (a : List ℕ) (bound : ℕ) → HasWrapSpace a cells → IsNarrow code bound a
       → (run_on code bound a).why ≡ Bound
       → (run_on wrapped bound (with_zeros a cells)).why ≡ Bound

@@ -1,10 +1,10 @@
 // The copy code, as an image of its own.
 ghost use Rattle.std.specs.Prelude.{◌≡◌, ◌≤◌, ◌++◌, ◌+◌, ◌*◌, ◌∷◌, [], length, map, All, IfOk, OnOk};
 ghost use Rattle.paired_code.specs.rpp_words.Words.{negated};
-ghost use Rattle.paired_code.specs.Cells.{start, finish};
+ghost use Rattle.paired_code.specs.Cells.{start_cell, finish};
 ghost use Rattle.paired_code.specs.Code.{unmarked};
 ghost use Rattle.bennett_wrap.specs.declared.wrapping.TheConstants.{MOST_COPIED};
-ghost use Rattle.bennett_wrap.specs.Copying.{find_cells, copy_one, copies, ending_cells, copy_cells, own, IsPlain};
+ghost use Rattle.bennett_wrap.specs.Copying.{find_cells, copy_one, copies, ending_cells, copied_cells, own_symbol, IsPlainCell};
 
 use code_conventions::cells::{add, addi, exch, sub, xor};
 use paired_code::{Piece, empty, link, plain, seq};
@@ -27,7 +27,7 @@ pub const COPY: u8 = 4;
 /// START, the copy code and FINISH.
 pub(crate) fn copy_image(alloc: Global, cells: &[u32]) -> Result<Image, NoMemory>
     requires { length cells.now ≤ MOST_COPIED }
-    ensures code { IfOk result (λ image. image.code ≡ start ∷ (copy_cells cells.now ++ finish ∷ [])) }
+    ensures code { IfOk result (λ image. image.code ≡ start_cell ∷ (copied_cells cells.now ++ finish ∷ [])) }
 {
     let row = copy_row(alloc, cells)?;
     let main = line(alloc, &row)?;
@@ -37,8 +37,8 @@ pub(crate) fn copy_image(alloc: Global, cells: &[u32]) -> Result<Image, NoMemory
 
 /// Instructions in a row, as a fragment.
 fn line(alloc: Global, row: &[Cell]) -> Result<Piece, NoMemory>
-    requires { All IsPlain row.now }
-    ensures { IfOk result (λ piece. piece ≡ unmarked (map own row.now)) }
+    requires { All IsPlainCell row.now }
+    ensures { IfOk result (λ piece. piece ≡ unmarked (map own_symbol row.now)) }
 {
     let mut piece = empty(alloc);
     for cell in row.iter().copied() {
@@ -50,8 +50,8 @@ fn line(alloc: Global, row: &[Cell]) -> Result<Piece, NoMemory>
 /// The instructions of the copy code.
 fn copy_row(alloc: Global, cells: &[u32]) -> Result<Vec<Cell>, NoMemory>
     requires { length cells.now ≤ MOST_COPIED }
-    ensures row { IfOk result (λ row. row.items ≡ copy_cells cells.now) }
-    ensures plain { IfOk result (λ row. All IsPlain row.items) }
+    ensures row { IfOk result (λ row. row.items ≡ copied_cells cells.now) }
+    ensures plain { IfOk result (λ row. All IsPlainCell row.items) }
 {
     let mut row = Vec::new(alloc);
     put_find(&mut row)?;

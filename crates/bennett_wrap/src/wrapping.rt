@@ -3,8 +3,8 @@ ghost use Rattle.std.specs.Prelude.{◌≡◌, ◌≤◌, ◌<◌, ◌+◌, ◌-
 ghost use Rattle.image_inverter.specs.pisa_isa.Image.{is_start, is_finish, IsImage};
 ghost use Rattle.paired_code.specs.code_conventions.Cells.{bra};
 ghost use Rattle.paired_code.specs.Layout.{between};
-ghost use Rattle.bennett_wrap.specs.Copying.{copy_cells};
-ghost use Rattle.bennett_wrap.specs.Wrapped.{left_by, entered_by, finish_of, inner, joined, wrapped_code, Wrapped};
+ghost use Rattle.bennett_wrap.specs.Copying.{copied_cells};
+ghost use Rattle.bennett_wrap.specs.Wrapped.{left_by, entered_by, finish_of, inner, code_joined, wrapped_code, Wrapped};
 
 use crate::copying::copy_image;
 use code_conventions::cells::with_word;

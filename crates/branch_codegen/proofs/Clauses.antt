@@ -5,10 +5,10 @@ use Rattle.refine_expressions.specs.paired_code.declared.part.Symbol.{Symbol}
 use Rattle.refine_expressions.specs.code_conventions.Cells.{bra}
 use Rattle.refine_expressions.specs.paired_code.declared.part.Symbol.TheVariants.{Own}
 use Rattle.refine_expressions.specs.paired_code.Layout.{between, fork, branch_cells, loop_cells, mirror_cells}
-use Rattle.refine_expressions.specs.paired_code.Rows.{line, within}
+use Rattle.refine_expressions.specs.paired_code.Rows.{line, within_symbols}
 use Rattle.refine_expressions.specs.paired_code.Code.{Code, loop_code}
 use Rattle.refine_form.specs.Worlds.{world_of}
-use Rattle.refine_form.specs.Held.{Holds, HoldsBoth}
+use Rattle.refine_form.specs.Held.{HoldsCode, HoldsBoth}
 use Rattle.refine_form.proofs.Holding.{holds_itself, both_of, both_loop}
 use Rattle.refine_expressions.specs.code_conventions.declared.faults.TheConstants.{FI, LOOP}
 use Rattle.refine_expressions.specs.code_conventions.declared.registers.TheConstants.{FLAG}
@@ -54,7 +54,7 @@ loop_length r head tail =
     sum_loop (length head) (length tail) (length (tail ++ (mid ++ (head ++ last)))) (length (head ++ last))
     (length-append tail (mid ++ (head ++ last))) (length-append head last)
 
-within_length : (p : List Symbol) → length (within (flips ∷ []) p) ≡ suc (length p + 1)
+within_length : (p : List Symbol) → length (within_symbols (flips ∷ []) p) ≡ suc (length p + 1)
 within_length p = ap suc (length-append p (mirror_cells (line (flips ∷ []))))
 
 sum_if : (t p q a n1 n2 n3 b pp : ℕ) → n1 ≡ t + n2 → n2 ≡ b + n3 → n3 ≡ a + 3 → b ≡ pp + q + 10 → pp ≡ suc (p + 1)
@@ -94,6 +94,6 @@ pub turn_cells : (e p x : List Symbol) → (e ++ check LOOP) ++ (p ++ (check LOO
 turn_cells e p x = append_assoc e (check LOOP) (p ++ (check LOOP ++ x))
 
 -- the second part of a loop, and the first one in its turn
-pub loop_held : (r : ℕ) (turn first again : Code) → Holds first turn → HoldsBoth again first (loop_code r turn again)
+pub loop_held : (r : ℕ) (turn first again : Code) → HoldsCode first turn → HoldsBoth again first (loop_code r turn again)
 loop_held r turn first again h = both_of again again first turn (loop_code r turn again) (holds_itself again) h
     (both_loop r turn again)

@@ -9,10 +9,10 @@ use Rattle.rpp_tree.specs.Tree.{Expression, Number, Null, Variable, Element, Bin
 use Rattle.refine_expressions.specs.inverse_rules.Inverse.{inverse}
 use Rattle.refine_expressions.specs.pisa_isa.Machine.{Memory}
 use Rattle.refine_expressions.specs.paired_code.declared.part.Symbol.{Symbol}
-use Rattle.refine_expressions.specs.paired_code.Machine.{Image, reg}
-use Rattle.refine_expressions.specs.paired_code.Layout.{xor, loop_cells, Equal}
-use Rattle.refine_expressions.specs.paired_code.Pieces.{Outcome, Done, Trapped, Still, Will, after, to_tail, to_head}
-use Rattle.refine_expressions.specs.paired_code.Does.{Rates, Told, Fine, Fault, More, plus, told_then, Meets, fine, faults, more, Does}
+use Rattle.refine_expressions.specs.paired_code.Machine.{Image, memory_reg}
+use Rattle.refine_expressions.specs.paired_code.Layout.{bool_xor, loop_cells, Equal}
+use Rattle.refine_expressions.specs.paired_code.Pieces.{Outcome, Done, Trapped, Still, Will, outcome_after, to_tail, to_head}
+use Rattle.refine_expressions.specs.paired_code.Does.{Rates, RunResult, Fine, Fault, More, plus, told_then, Meets, fine, faults, more, Does}
 use Rattle.refine_expressions.specs.paired_code.Does.{in_order}
 use Rattle.refine_expressions.proofs.paired_code_laws.Laws.{Next, will_of, will_more}
 use Rattle.refine_expressions.proofs.paired_code_laws.Checks.{runs_passes, runs_fails}
@@ -23,8 +23,8 @@ use Rattle.refine_expressions.specs.roopl_semantics.Run.{given, after_cost}
 use Rattle.refine_expressions.specs.roopl_semantics.Store.{Value, State}
 use Rattle.refine_expressions.specs.roopl_semantics.Value.{evaluated, value}
 use Rattle.refine_expressions.specs.roopl_semantics.Execution.{Setting, exec, holds, turns, turn_end}
-use Rattle.refine_form.specs.Form.{World, Scope, Open, Owes, StmtLaw, BlockLaw, TestLaw, test_rates, tested, told}
-use Rattle.refine_form.specs.Form.{one, turned}
+use Rattle.refine_form.specs.Form.{World, Scope, HasOpenFrame, Owes, StmtLaw, BlockLaw, TestLaw, test_rates, tested, run_result}
+use Rattle.refine_form.specs.Form.{one, turned_statement}
 use Rattle.refine_expressions.specs.paired_code.Rows.{line}
 use Rattle.refine_form.specs.Cells.{around}
 use Rattle.branch_codegen.specs.Branches.{flips, check, from_code}
@@ -40,51 +40,51 @@ use Rattle.refine_form.proofs.Memories.{mk}
 
 -- a part that meets the source, and the others, by what is known where it is left
 pub step_then : {A : Type 0} (im : Image) (d : Bool) (R : A → Memory → Type 0) (b : Rates) (n x : ℕ) (p : List Symbol)
-    (ps : List (List Symbol)) (m : Memory) (t : Told A) (Q : Outcome → Type 0) → Will im p d m (Meets R b n x t)
+    (ps : List (List Symbol)) (m : Memory) (t : RunResult A) (Q : Outcome → Type 0) → Will im p d m (Meets R b n x t)
     → ((a : A) (m1 : Memory) (c k : ℕ) → t ≡ Fine a c → R a m1 → c ≤ b.counts * k → k ≤ b.steps * c + x
-    → Will im (in_order d ps) d m1 (λ o. Q (after k o)))
+    → Will im (in_order d ps) d m1 (λ o. Q (outcome_after k o)))
     → ((v c k : ℕ) → t ≡ Fault v c → k ≤ b.steps * c + x → Q (Trapped v k))
     → ((k : ℕ) → t ≡ More → n ≤ b.counts * (k + 1) → Q (Still k)) → Will im (in_order d (p ∷ ps)) d m Q
 step_then im d R b n x p ps m t Q w go trap stay = will_first im d p ps m Q
     (will_more im p d m _ _ (λ o h. by o t refl h) w)
   where
-    by : (o : Outcome) (t' : Told _) → t ≡ t' → Meets R b n x t' o
-        → Next (λ m1 k. Will im (in_order d ps) d m1 (λ o. Q (after k o))) Q o
+    by : (o : Outcome) (t' : RunResult _) → t ≡ t' → Meets R b n x t' o
+        → Next (λ m1 k. Will im (in_order d ps) d m1 (λ o. Q (outcome_after k o))) Q o
     by _ _ e (fine {a = a} {m = m1} {c = c} {k = k} r l u) = go a m1 c k e r l u
     by _ _ e (faults {w = v} {c = c} {k = k} u) = trap v c k e u
     by _ _ e (more {k = k} l) = stay k e l
 
 -- the last part
 pub step_last : {A : Type 0} (im : Image) (d : Bool) (R : A → Memory → Type 0) (b : Rates) (n x : ℕ) (p : List Symbol)
-    (m : Memory) (t : Told A) (Q : Outcome → Type 0) → Will im p d m (Meets R b n x t)
+    (m : Memory) (t : RunResult A) (Q : Outcome → Type 0) → Will im p d m (Meets R b n x t)
     → ((a : A) (m1 : Memory) (c k : ℕ) → t ≡ Fine a c → R a m1 → c ≤ b.counts * k → k ≤ b.steps * c + x → Q (Done m1 k))
     → ((v c k : ℕ) → t ≡ Fault v c → k ≤ b.steps * c + x → Q (Trapped v k))
     → ((k : ℕ) → t ≡ More → n ≤ b.counts * (k + 1) → Q (Still k)) → Will im (in_order d (p ∷ [])) d m Q
 step_last im d R b n x p m t Q w go trap stay = will_last im d p m Q (will_more im p d m _ _ (λ o h. by o t refl h) w)
   where
-    by : (o : Outcome) (t' : Told _) → t ≡ t' → Meets R b n x t' o → Q o
+    by : (o : Outcome) (t' : RunResult _) → t ≡ t' → Meets R b n x t' o → Q o
     by _ _ e (fine {a = a} {m = m1} {c = c} {k = k} r l u) = go a m1 c k e r l u
     by _ _ e (faults {w = v} {c = c} {k = k} u) = trap v c k e u
     by _ _ e (more {k = k} l) = stay k e l
 
 pub quiet_then : (im : Image) (d : Bool) (P : Memory → Type 0) (x : ℕ) (p : List Symbol) (ps : List (List Symbol))
     (m : Memory) (Q : Outcome → Type 0) → Will im p d m (Quiet P x)
-    → ((m1 : Memory) (k : ℕ) → P m1 → k ≤ x → Will im (in_order d ps) d m1 (λ o. Q (after k o)))
+    → ((m1 : Memory) (k : ℕ) → P m1 → k ≤ x → Will im (in_order d ps) d m1 (λ o. Q (outcome_after k o)))
     → Will im (in_order d (p ∷ ps)) d m Q
 quiet_then im d P x p ps m Q w go = will_first im d p ps m Q (will_more im p d m _ _ (λ o h. by o h) w)
   where
-    by : (o : Outcome) → Quiet P x o → Next (λ m1 k. Will im (in_order d ps) d m1 (λ o. Q (after k o))) Q o
+    by : (o : Outcome) → Quiet P x o → Next (λ m1 k. Will im (in_order d ps) d m1 (λ o. Q (outcome_after k o))) Q o
     by _ (quiet {m = m1} {k = k} r l) = go m1 k r l
 
-then_at : {A B : Type 0} (t : Told A) (a : A) (c : ℕ) (g : A → Told B) → t ≡ Fine a c
+then_at : {A B : Type 0} (t : RunResult A) (a : A) (c : ℕ) (g : A → RunResult B) → t ≡ Fine a c
     → told_then t (λ c a. g a) ≡ plus c (g a)
 then_at t a c g e = ap (λ z. told_then z (λ c a. g a)) e
 
-then_fault : {A B : Type 0} (t : Told A) (v c : ℕ) (g : A → Told B) → t ≡ Fault v c
+then_fault : {A B : Type 0} (t : RunResult A) (v c : ℕ) (g : A → RunResult B) → t ≡ Fault v c
     → told_then t (λ c a. g a) ≡ Fault v c
 then_fault t v c g e = ap (λ z. told_then z (λ c a. g a)) e
 
-then_more : {A B : Type 0} (t : Told A) (g : A → Told B) → t ≡ More → told_then t (λ c a. g a) ≡ More
+then_more : {A B : Type 0} (t : RunResult A) (g : A → RunResult B) → t ≡ More → told_then t (λ c a. g a) ≡ More
 then_more t g e = ap (λ z. told_then z (λ c a. g a)) e
 
 -- a condition costs something
@@ -96,19 +96,19 @@ nodes_one (Element name index) = omega arith
 nodes_one (Binary at op left right) = omega arith
 
 pub test_costs : (setting : Setting) (e : Expression) (st : State) (b : Bool) (c : ℕ)
-    → told (tested setting e st) ≡ Fine b c → 1 ≤ c
+    → run_result (tested setting e st) ≡ Fine b c → 1 ≤ c
 test_costs setting e st b c h = by (given (value setting.program st e)) h
   where
-    by : (r : Run Value) → told (after_cost (nodes e) r >>= λ v. give (holds v)) ≡ Fine b c → 1 ≤ c
+    by : (r : Run Value) → run_result (after_cost (nodes e) r >>= λ v. give (holds v)) ≡ Fine b c → 1 ≤ c
     by (DoneRun v k) h = let q : nodes e + k + 0 ≡ c = cc in omega (arith, nodes_one e, q)
     by (FaultRun v k) h = absurd (cc)
     by MoreRun h = absurd (cc)
 
-pub fault_costs : (setting : Setting) (e : Expression) (st : State) (x c : ℕ) → told (tested setting e st) ≡ Fault x c
+pub fault_costs : (setting : Setting) (e : Expression) (st : State) (x c : ℕ) → run_result (tested setting e st) ≡ Fault x c
     → 1 ≤ c
 fault_costs setting e st x c h = by (given (value setting.program st e)) h
   where
-    by : (r : Run Value) → told (after_cost (nodes e) r >>= λ v. give (holds v)) ≡ Fault x c → 1 ≤ c
+    by : (r : Run Value) → run_result (after_cost (nodes e) r >>= λ v. give (holds v)) ≡ Fault x c → 1 ≤ c
     by (DoneRun v k) h = absurd (cc)
     by (FaultRun v k) h = let q : nodes e + k ≡ c = cc in omega (arith, nodes_one e, q)
     by MoreRun h = absurd (cc)
@@ -126,78 +126,78 @@ two_counts b c c' k k' h g = omega (arith, h, g, mul-add b k k')
 
 module _ (w : World) (thousand : w.rates.steps ≡ 1000) (counts : 1 ≤ w.rates.counts) (s : Scope) (u : w.Under)
     (d : Bool) (e1 e2 : Expression) (first again : Statements) (n : ℕ) where
-  abbrev looped : Bool → Told State → Told State
+  abbrev looped : Bool → RunResult State → RunResult State
   looped true t = Fault LOOP 0
   looped false t = t
 
-  abbrev ended : Bool → Told State → Told State → Told State
+  abbrev ended : Bool → RunResult State → RunResult State → RunResult State
   ended true a b = a
   ended false a b = b
 
   -- what the source says of at most j iterations
-  abbrev says : ℕ → State → Told State
+  abbrev says : ℕ → State → RunResult State
   says zero st = More
   says (suc j) st =
-      told_then (told (exec w.setting n first st)) (λ c end. told_then (told (tested w.setting e2 end))
-      (λ c b. ended b (Fine end 0) (told_then (told (exec w.setting n again end))
-      (λ c end2. told_then (told (tested w.setting e1 end2)) (λ c b2. looped b2 (says j end2))))))
+      told_then (run_result (exec w.setting n first st)) (λ c end. told_then (run_result (tested w.setting e2 end))
+      (λ c b. ended b (Fine end 0) (told_then (run_result (exec w.setting n again end))
+      (λ c end2. told_then (run_result (tested w.setting e1 end2)) (λ c b2. looped b2 (says j end2))))))
 
-  looped_is : (j : ℕ) (b : Bool) (end : State) → told (turns w.setting j (exec w.setting n) e1 first again e2 end)
-      ≡ says j end → told (fault_if LOOP b >>= λ z. turns w.setting j (exec w.setting n) e1 first again e2 end)
+  looped_is : (j : ℕ) (b : Bool) (end : State) → run_result (turns w.setting j (exec w.setting n) e1 first again e2 end)
+      ≡ says j end → run_result (fault_if LOOP b >>= λ z. turns w.setting j (exec w.setting n) e1 first again e2 end)
       ≡ looped b (says j end)
   looped_is j true end ih = refl
   looped_is j false end ih = told_after 0 (turns w.setting j (exec w.setting n) e1 first again e2 end)
-      ∙ plus_none (told (turns w.setting j (exec w.setting n) e1 first again e2 end)) ∙ ih
+      ∙ plus_none (run_result (turns w.setting j (exec w.setting n) e1 first again e2 end)) ∙ ih
 
   end_is : (j : ℕ) (b : Bool) (end : State) → ((st : State)
-      → told (turns w.setting j (exec w.setting n) e1 first again e2 st) ≡ says j st)
-      → told (turn_end w.setting (exec w.setting n) e1 again (turns w.setting j (exec w.setting n) e1 first again e2) b
-      end) ≡ ended b (Fine end 0) (told_then (told (exec w.setting n again end))
-      (λ c end2. told_then (told (tested w.setting e1 end2)) (λ c b2. looped b2 (says j end2))))
+      → run_result (turns w.setting j (exec w.setting n) e1 first again e2 st) ≡ says j st)
+      → run_result (turn_end w.setting (exec w.setting n) e1 again (turns w.setting j (exec w.setting n) e1 first again e2) b
+      end) ≡ ended b (Fine end 0) (told_then (run_result (exec w.setting n again end))
+      (λ c end2. told_then (run_result (tested w.setting e1 end2)) (λ c b2. looped b2 (says j end2))))
   end_is j true end ih = refl
   end_is j false end ih =
       let go : State → Value → Run State = λ end2 v. fault_if LOOP (holds v) >>= λ z. turns w.setting j
       (exec w.setting n) e1 first again e2 end2 in
       told_bind (exec w.setting n again end) (λ end2. evaluated w.setting.program e1 end2 >>= go end2)
-      ∙ same_then (told (exec w.setting n again end)) (λ end2. told (evaluated w.setting.program e1 end2 >>= go end2))
-      (λ end2. told_then (told (tested w.setting e1 end2)) (λ c b2. looped b2 (says j end2))) (λ end2.
+      ∙ same_then (run_result (exec w.setting n again end)) (λ end2. run_result (evaluated w.setting.program e1 end2 >>= go end2))
+      (λ end2. told_then (run_result (tested w.setting e1 end2)) (λ c b2. looped b2 (says j end2))) (λ end2.
       told_bind (evaluated w.setting.program e1 end2) (go end2)
-      ∙ same_then (told (evaluated w.setting.program e1 end2)) (λ v. told (go end2 v))
+      ∙ same_then (run_result (evaluated w.setting.program e1 end2)) (λ v. run_result (go end2 v))
       (λ v. looped (holds v) (says j end2)) (λ v. looped_is j (holds v) end2 (ih end2))
       ∙ sym (told_holds (evaluated w.setting.program e1 end2) (λ b2. looped b2 (says j end2))))
 
-  pub told_turns : (j : ℕ) (st : State) → told (turns w.setting j (exec w.setting n) e1 first again e2 st) ≡ says j st
+  pub told_turns : (j : ℕ) (st : State) → run_result (turns w.setting j (exec w.setting n) e1 first again e2 st) ≡ says j st
   told_turns zero st = refl
   told_turns (suc j) st =
-      let G : State → Bool → Told State = λ end b. ended b (Fine end 0)
-      (told_then (told (exec w.setting n again end)) (λ c end2. told_then (told (tested w.setting e1 end2))
+      let G : State → Bool → RunResult State = λ end b. ended b (Fine end 0)
+      (told_then (run_result (exec w.setting n again end)) (λ c end2. told_then (run_result (tested w.setting e1 end2))
       (λ c b2. looped b2 (says j end2)))) in
       let K : State → Value → Run State = λ end v. turn_end w.setting (exec w.setting n) e1 again
       (turns w.setting j (exec w.setting n) e1 first again e2) (holds v) end in
       told_bind (exec w.setting n first st) (λ end. evaluated w.setting.program e2 end >>= K end)
-      ∙ same_then (told (exec w.setting n first st)) (λ end. told (evaluated w.setting.program e2 end >>= K end))
-      (λ end. told_then (told (tested w.setting e2 end)) (λ c b. G end b)) (λ end.
+      ∙ same_then (run_result (exec w.setting n first st)) (λ end. run_result (evaluated w.setting.program e2 end >>= K end))
+      (λ end. told_then (run_result (tested w.setting e2 end)) (λ c b. G end b)) (λ end.
       told_bind (evaluated w.setting.program e2 end) (K end)
-      ∙ same_then (told (evaluated w.setting.program e2 end)) (λ v. told (K end v)) (λ v. G end (holds v))
+      ∙ same_then (run_result (evaluated w.setting.program e2 end)) (λ v. run_result (K end v)) (λ v. G end (holds v))
       (λ v. end_is j (holds v) end (λ st. told_turns j st))
       ∙ sym (told_holds (evaluated w.setting.program e2 end) (G end)))
 
   -- with the entry's condition, which is to hold at the first entry and not later
-  abbrev enters : Bool → ℕ → State → Told State
-  enters v j st = told_then (told (tested w.setting e1 st)) (λ c b. looped (xor v b) (says j st))
+  abbrev enters : Bool → ℕ → State → RunResult State
+  enters v j st = told_then (run_result (tested w.setting e1 st)) (λ c b. looped (bool_xor v b) (says j st))
 
-  abbrev after_first : ℕ → State → Told State
-  after_first j end = told_then (told (tested w.setting e2 end))
-      (λ c b. ended b (Fine end 0) (told_then (told (exec w.setting n again end)) (λ c end2. enters false j end2)))
+  abbrev after_first : ℕ → State → RunResult State
+  after_first j end = told_then (run_result (tested w.setting e2 end))
+      (λ c b. ended b (Fine end 0) (told_then (run_result (exec w.setting n again end)) (λ c end2. enters false j end2)))
 
-  flag_zero : (st : State) (m : Memory) → Flagged w s u false st m → reg m FLAG ≡ 0
-  flag_zero st m h = ap (λ z. reg z FLAG) (as_known m _ h.regs_are)
+  flag_zero : (st : State) (m : Memory) → Flagged w s u false st m → memory_reg m FLAG ≡ 0
+  flag_zero st m h = ap (λ z. memory_reg z FLAG) (as_known m _ h.regs_are)
 
-  flag_one : (st : State) (m : Memory) → Flagged w s u true st m → reg m FLAG ≢ 0
-  flag_one st m h e = let q : reg m FLAG ≡ 1 = ap (λ z. reg z FLAG) (as_known m _ h.regs_are) in omega (arith, e, q)
+  flag_one : (st : State) (m : Memory) → Flagged w s u true st m → memory_reg m FLAG ≢ 0
+  flag_one st m h e = let q : memory_reg m FLAG ≡ 1 = ap (λ z. memory_reg z FLAG) (as_known m _ h.regs_are) in omega (arith, e, q)
 
-  nought_zero : (v : Bool) (st : State) (m : Memory) → Flagged w s u v st m → reg m NOUGHT ≡ 0
-  nought_zero v st m h = ap (λ z. reg z NOUGHT) (as_known m _ h.regs_are)
+  nought_zero : (v : Bool) (st : State) (m : Memory) → Flagged w s u v st m → memory_reg m NOUGHT ≡ 0
+  nought_zero v st m h = ap (λ z. memory_reg z NOUGHT) (as_known m _ h.regs_are)
 
   check_passes : (st : State) (m : Memory) → Flagged w s u false st m
       → Will w.im (check LOOP) d m (Quiet (Flagged w s u false st) 2)
@@ -221,12 +221,12 @@ module _ (w : World) (thousand : w.rates.steps ≡ 1000) (counts : 1 ≤ w.rates
   some_steps b c zero h l = absurd (omega (arith, h, l))
   some_steps b c (suc k) h l = omega arith
 
-  abbrev Left : ℕ → Told State → Outcome → Type 0
+  abbrev Left : ℕ → RunResult State → Outcome → Type 0
   Left j t o = Meets (Flagged w s u true) w.rates j 0 t o
 
   -- the iterations after an iteration
-  onward : {j : ℕ} {t : Told State} {o : Outcome} (c k0 : ℕ) → c ≤ w.rates.counts * k0 → 1 ≤ k0 → k0 ≤ 1000 * c
-      → Left j t o → Left (suc j) (plus c t) (after k0 o)
+  onward : {j : ℕ} {t : RunResult State} {o : Outcome} (c k0 : ℕ) → c ≤ w.rates.counts * k0 → 1 ≤ k0 → k0 ≤ 1000 * c
+      → Left j t o → Left (suc j) (plus c t) (outcome_after k0 o)
   onward c k0 h one l (fine {c = c'} {k = k} g hc hk) =
       let hk' : k ≤ 1000 * c' = thousand_is k c' hk in
       fine g (two_counts w.rates.counts c c' k0 k h hc) (of_thousand (k0 + k) (c + c') 0 (omega (arith, l, hk')))
@@ -243,23 +243,23 @@ module _ (w : World) (thousand : w.rates.steps ≡ 1000) (counts : 1 ≤ w.rates
       ))
 
   module _ (pa pb ps pt hd : List Symbol) (h1 : FlagLaw w s e1 pa) (h2 : FlagLaw w s e2 pb)
-      (first_does : Does w.im ps d (Open w s u) (Open w s u) w.rates n 0 (λ st. told (exec w.setting n first st)))
-      (again_does : Does w.im pt d (Open w s u) (Open w s u) w.rates n 0 (λ st. told (exec w.setting n again st)))
+      (first_does : Does w.im ps d (HasOpenFrame w s u) (HasOpenFrame w s u) w.rates n 0 (λ st. run_result (exec w.setting n first st)))
+      (again_does : Does w.im pt d (HasOpenFrame w s u) (HasOpenFrame w s u) w.rates n 0 (λ st. run_result (exec w.setting n again st)))
       (hd_is : in_order d (pa ∷ check LOOP ∷ ps ∷ check LOOP ∷ pb ∷ []) ≡ hd) where
     abbrev Rounds : ℕ → Type 0
     Rounds j = (v : Bool) (st : State) (m : Memory) → Flagged w s u v st m
         → Turns w.im FLAG hd pt d m (Left j (enters v j st))
 
-    module _ (j : ℕ) (ih : Rounds j) (fuel : suc j ≤ n) (t : Told State) (c1 cs c2 k : ℕ) (st2 : State)
-        (t_is : t ≡ plus (c1 + (cs + c2)) (told_then (told (exec w.setting n again st2))
+    module _ (j : ℕ) (ih : Rounds j) (fuel : suc j ≤ n) (t : RunResult State) (c1 cs c2 k : ℕ) (st2 : State)
+        (t_is : t ≡ plus (c1 + (cs + c2)) (told_then (run_result (exec w.setting n again st2))
         (λ c end2. enters false j end2))) (some : 1 ≤ c1) (counted : c1 + (cs + c2) ≤ w.rates.counts * k)
         (moves : 1 ≤ k) (steps : k ≤ 400 * c1 + (1000 * cs + 400 * c2) + 104) where
       abbrev Q : Outcome → Type 0
       Q o = Left (suc j) t o
 
       abbrev N : Outcome → Type 0
-      N o = Next (λ m2 k2. (reg m2 FLAG ≡ 0) × Turns w.im FLAG hd pt d m2
-          (λ o. Q (after (k + to_tail d + (k2 + to_head d)) o))) (λ o. Q (after (k + to_tail d) o)) o
+      N o = Next (λ m2 k2. (memory_reg m2 FLAG ≡ 0) × Turns w.im FLAG hd pt d m2
+          (λ o. Q (outcome_after (k + to_tail d + (k2 + to_head d)) o))) (λ o. Q (outcome_after (k + to_tail d) o)) o
 
       small_tail : to_tail d ≤ 4
       small_tail = let q = turn_small in go d
@@ -268,8 +268,8 @@ module _ (w : World) (thousand : w.rates.steps ≡ 1000) (counts : 1 ≤ w.rates
           go false = omega arith
           go true = omega arith
 
-      tail_by : (o : Outcome) (t2 : Told State) → told (exec w.setting n again st2) ≡ t2
-          → Meets (Open w s u) w.rates n 0 t2 o → N o
+      tail_by : (o : Outcome) (t2 : RunResult State) → run_result (exec w.setting n again st2) ≡ t2
+          → Meets (HasOpenFrame w s u) w.rates n 0 t2 o → N o
       tail_by _ _ e (fine {a = end2} {m = m2} {c = ct} {k = kt} r l x) =
           let i : Flagged w s u false end2 m2 = record { regs_are = r.regs_are; open_frame = r.open_frame } in
           let told_is : t ≡ plus (c1 + (cs + c2) + ct) (enters false j end2) = t_is
@@ -282,7 +282,7 @@ module _ (w : World) (thousand : w.rates.steps ≡ 1000) (counts : 1 ≤ w.rates
           let x' : kt ≤ 1000 * ct = thousand_is kt ct x in (
             flag_zero end2 m2 i,
             turns_more w.im d FLAG hd pt m2 _ _
-                (λ o q. subst (λ z. Left (suc j) z (after k0 o)) (sym told_is)
+                (λ o q. subst (λ z. Left (suc j) z (outcome_after k0 o)) (sym told_is)
                 (onward (c1 + (cs + c2) + ct) k0 paid (omega (arith, moves))
                 (omega (arith, turn_small, x', steps, some)) q)) (ih false end2 m2 i),
           )
@@ -303,9 +303,9 @@ module _ (w : World) (thousand : w.rates.steps ≡ 1000) (counts : 1 ≤ w.rates
           (again_does.does st2 m (record { regs_are = h.regs_are; open_frame = h.open_frame }))
 
     -- after the first condition, if the flag says that it is as it must be
-    module _ (v : Bool) (st : State) (c1 k1 : ℕ) (e1_is : told (tested w.setting e1 st) ≡ Fine v c1)
+    module _ (v : Bool) (st : State) (c1 k1 : ℕ) (e1_is : run_result (tested w.setting e1 st) ≡ Fine v c1)
         (n1 : c1 ≤ w.rates.counts * k1) (l1 : k1 ≤ 400 * c1 + 50) where
-      xor_same : (v : Bool) → xor v v ≡ false
+      xor_same : (v : Bool) → bool_xor v v ≡ false
       xor_same true = refl
       xor_same false = refl
 
@@ -313,7 +313,7 @@ module _ (w : World) (thousand : w.rates.steps ≡ 1000) (counts : 1 ≤ w.rates
       some = test_costs w.setting e1 st v c1 e1_is
 
       enters_is : (j : ℕ) → enters v j st ≡ plus c1 (says j st)
-      enters_is j = then_at _ v c1 (λ b. looped (xor v b) (says j st)) e1_is
+      enters_is j = then_at _ v c1 (λ b. looped (bool_xor v b) (says j st)) e1_is
           ∙ ap (λ b. plus c1 (looped b (says j st))) (xor_same v)
 
       module _ (j : ℕ) (ih : Rounds j) (fuel : suc j ≤ n) where
@@ -324,14 +324,14 @@ module _ (w : World) (thousand : w.rates.steps ≡ 1000) (counts : 1 ≤ w.rates
         P o = Next (After_head w.im FLAG hd pt d QH) QH o
 
         heading : (a1 k2 a2 k3 cs c2 : ℕ) (st2 : State) (m3 : Memory) (b : Bool)
-            → told (exec w.setting n first st) ≡ Fine st2 cs → told (tested w.setting e2 st2) ≡ Fine b c2
+            → run_result (exec w.setting n first st) ≡ Fine st2 cs → run_result (tested w.setting e2 st2) ≡ Fine b c2
             → Flagged w s u b st2 m3 → a1 ≤ 2 → a2 ≤ 2 → cs ≤ w.rates.counts * k2 → k2 ≤ 1000 * cs
             → c2 ≤ w.rates.counts * k3 → k3 ≤ 400 * c2 + 50 → P (Done m3 (k1 + (a1 + (k2 + (a2 + k3)))))
         heading a1 k2 a2 k3 cs c2 st2 m3 true es e2_is h la lb n2 l2 n3 l3 =
             let told_is : enters v (suc j) st ≡ Fine st2 (c1 + (cs + (c2 + 0))) = enters_is (suc j)
             ∙ ap (plus c1) (then_at _ st2 cs (after_first j) es
             ∙ ap (plus cs) (then_at _ true c2 (λ b. ended b (Fine st2 0)
-            (told_then (told (exec w.setting n again st2)) (λ c end2. enters false j end2))) e2_is)) in
+            (told_then (run_result (exec w.setting n again st2)) (λ c end2. enters false j end2))) e2_is)) in
             let z : c2 + 0 ≤ w.rates.counts * k3 = omega (arith, n3) in
             let paid = two_counts w.rates.counts c1 (cs + (c2 + 0)) k1 (k2 + k3) n1
             (two_counts w.rates.counts cs (c2 + 0) k2 k3 n2 z) in
@@ -343,10 +343,10 @@ module _ (w : World) (thousand : w.rates.steps ≡ 1000) (counts : 1 ≤ w.rates
             )
         heading a1 k2 a2 k3 cs c2 st2 m3 false es e2_is h la lb n2 l2 n3 l3 =
             let told_is : enters v (suc j) st ≡ plus (c1 + (cs + c2))
-            (told_then (told (exec w.setting n again st2)) (λ c end2. enters false j end2)) = enters_is (suc j)
+            (told_then (run_result (exec w.setting n again st2)) (λ c end2. enters false j end2)) = enters_is (suc j)
             ∙ ap (plus c1) (then_at _ st2 cs (after_first j) es
             ∙ ap (plus cs) (then_at _ false c2 (λ b. ended b (Fine st2 0)
-            (told_then (told (exec w.setting n again st2)) (λ c end2. enters false j end2))) e2_is)
+            (told_then (run_result (exec w.setting n again st2)) (λ c end2. enters false j end2))) e2_is)
             ∙ plus_plus cs c2 _) ∙ plus_plus c1 (cs + c2) _ in
             let paid = two_counts w.rates.counts c1 (cs + c2) k1 (k2 + k3) n1
             (two_counts w.rates.counts cs c2 k2 k3 n2 n3) in
@@ -361,27 +361,27 @@ module _ (w : World) (thousand : w.rates.steps ≡ 1000) (counts : 1 ≤ w.rates
 
         rest_does : (m : Memory) → Flagged w s u false st m
             → Will w.im (in_order d (check LOOP ∷ ps ∷ check LOOP ∷ pb ∷ [])) d m
-            (λ o. P (after k1 o))
+            (λ o. P (outcome_after k1 o))
         rest_does m h =
             quiet_then w.im d (Flagged w s u false st) 2 (check LOOP) (ps ∷ check LOOP ∷ pb ∷ [])
             m
-            (λ o. P (after k1 o)) (check_passes st m h) (λ m1 a1 i la.
-            step_then w.im d (Open w s u) w.rates n 0 ps (check LOOP ∷ pb ∷ []) m1
-            (told (exec w.setting n first st)) (λ o. P (after k1 (after a1 o)))
+            (λ o. P (outcome_after k1 o)) (check_passes st m h) (λ m1 a1 i la.
+            step_then w.im d (HasOpenFrame w s u) w.rates n 0 ps (check LOOP ∷ pb ∷ []) m1
+            (run_result (exec w.setting n first st)) (λ o. P (outcome_after k1 (outcome_after a1 o)))
             (first_does.does st m1 (record { regs_are = i.regs_are; open_frame = i.open_frame }))
             (λ st2 m2 cs k2 es o2 n2 l2.
             quiet_then w.im d (Flagged w s u false st2) 2 (check LOOP) (pb ∷ []) m2
-            (λ o. P (after k1 (after a1 (after k2 o)))) (check_passes st2 m2
+            (λ o. P (outcome_after k1 (outcome_after a1 (outcome_after k2 o)))) (check_passes st2 m2
             (record { regs_are = o2.regs_are; open_frame = o2.open_frame })) (λ m3 a2 i3 lb.
-            step_last w.im d (λ b m4. Flagged w s u b st2 m4) (test_rates w) n 50 pb m3 (told (tested w.setting e2 st2))
-            (λ o. P (after k1 (after a1 (after k2 (after a2 o))))) (h2 n d u false st2 m3 i3)
+            step_last w.im d (λ b m4. Flagged w s u b st2 m4) (test_rates w) n 50 pb m3 (run_result (tested w.setting e2 st2))
+            (λ o. P (outcome_after k1 (outcome_after a1 (outcome_after k2 (outcome_after a2 o))))) (h2 n d u false st2 m3 i3)
             (λ b m4 c2 k3 e2_is f4 n3 l3. heading a1 k2 a2 k3 cs c2 st2 m4 b es e2_is f4 la lb n2 (thousand_is k2 cs l2)
             n3 l3)
             (λ x c3 k e l.
             let told_is : enters v (suc j) st ≡ Fault x (c1 + (cs + c3)) = enters_is (suc j)
             ∙ ap (plus c1) (then_at _ st2 cs (after_first j) es
             ∙ ap (plus cs) (then_fault _ x c3 (λ b. ended b (Fine st2 0)
-            (told_then (told (exec w.setting n again st2)) (λ c end2. enters false j end2))) e)) in
+            (told_then (run_result (exec w.setting n again st2)) (λ c end2. enters false j end2))) e)) in
             let l2' = thousand_is k2 cs l2 in
             meets_told _ _ (sym told_is) (faults (of_thousand _ (c1 + (cs + c3)) 0
             (omega (arith, some, la, lb, l1, l2', l)))))
@@ -389,7 +389,7 @@ module _ (w : World) (thousand : w.rates.steps ≡ 1000) (counts : 1 ≤ w.rates
             let told_is : enters v (suc j) st ≡ More = enters_is (suc j)
             ∙ ap (plus c1) (then_at _ st2 cs (after_first j) es
             ∙ ap (plus cs) (then_more _ (λ b. ended b (Fine st2 0)
-            (told_then (told (exec w.setting n again st2)) (λ c end2. enters false j end2))) e)) in
+            (told_then (run_result (exec w.setting n again st2)) (λ c end2. enters false j end2))) e)) in
             meets_told _ _ (sym told_is) (more (more_steps w.rates.counts (suc j) (k + 1)
             (k1 + (a1 + (k2 + (a2 + k))) + 1) (omega (arith, fuel, l)) (omega arith))))))
             (λ x cs k e l.
@@ -403,7 +403,7 @@ module _ (w : World) (thousand : w.rates.steps ≡ 1000) (counts : 1 ≤ w.rates
             meets_told _ _ (sym told_is) (more (more_steps w.rates.counts (suc j) (k + 1) (k1 + (a1 + k) + 1)
             (omega (arith, fuel, l)) (omega arith)))))
 
-    xor_false : (v b : Bool) → xor v b ≡ false → b ≡ v
+    xor_false : (v b : Bool) → bool_xor v b ≡ false → b ≡ v
     xor_false true true e = refl
     xor_false true false e = absurd (cc)
     xor_false false true e = absurd (cc)
@@ -417,44 +417,44 @@ module _ (w : World) (thousand : w.rates.steps ≡ 1000) (counts : 1 ≤ w.rates
       PA o = Next (After_head w.im FLAG hd pt d QA) QA o
 
       abbrev Rest : Type 0
-      Rest = (c1 k1 : ℕ) → told (tested w.setting e1 st) ≡ Fine v c1 → c1 ≤ w.rates.counts * k1 → k1 ≤ 400 * c1 + 50
+      Rest = (c1 k1 : ℕ) → run_result (tested w.setting e1 st) ≡ Fine v c1 → c1 ≤ w.rates.counts * k1 → k1 ≤ 400 * c1 + 50
           → (m : Memory) → Flagged w s u false st m → Will w.im
-          (in_order d (check LOOP ∷ ps ∷ check LOOP ∷ pb ∷ [])) d m (λ o. PA (after k1 o))
+          (in_order d (check LOOP ∷ ps ∷ check LOOP ∷ pb ∷ [])) d m (λ o. PA (outcome_after k1 o))
 
-      tried : Rest → (f b : Bool) → xor v b ≡ f → (c1 k1 : ℕ) → told (tested w.setting e1 st) ≡ Fine b c1
-          → c1 ≤ w.rates.counts * k1 → k1 ≤ 400 * c1 + 50 → (m : Memory) → Flagged w s u (xor v b) st m
+      tried : Rest → (f b : Bool) → bool_xor v b ≡ f → (c1 k1 : ℕ) → run_result (tested w.setting e1 st) ≡ Fine b c1
+          → c1 ≤ w.rates.counts * k1 → k1 ≤ 400 * c1 + 50 → (m : Memory) → Flagged w s u (bool_xor v b) st m
           → Will w.im (in_order d (check LOOP ∷ ps ∷ check LOOP ∷ pb ∷ [])) d m
-          (λ o. PA (after k1 o))
+          (λ o. PA (outcome_after k1 o))
       tried go true b f_is c1 k1 e n1 l1 m h =
           let i : Flagged w s u true st m = subst (λ z. Flagged w s u z st m) f_is h in
-          let told_is : enters v jj st ≡ Fault LOOP (c1 + 0) = then_at _ b c1 (λ b. looped (xor v b) (says jj st)) e
+          let told_is : enters v jj st ≡ Fault LOOP (c1 + 0) = then_at _ b c1 (λ b. looped (bool_xor v b) (says jj st)) e
           ∙ ap (λ z. plus c1 (looped z (says jj st))) f_is in
           let some = test_costs w.setting e1 st b c1 e in
-          let Q1 : Outcome → Type 0 = λ o. PA (after k1 o) in
+          let Q1 : Outcome → Type 0 = λ o. PA (outcome_after k1 o) in
           let W1 : Memory → ℕ → Type 0 = λ m1 k. Will w.im (in_order d (ps ∷ check LOOP ∷ pb ∷ [])) d m1
-          (λ o. Q1 (after k o)) in
+          (λ o. Q1 (outcome_after k o)) in
           will_first w.im d (check LOOP) (ps ∷ check LOOP ∷ pb ∷ []) m Q1
           (will_of w.im _ d m (Trapped LOOP 1) (Next W1 Q1) (runs_fails w.im d (Equal FLAG NOUGHT) LOOP m
           (λ e. flag_one st m i (e ∙ nought_zero true st m i)))
           (meets_told _ _ (sym told_is) (faults (of_thousand _ (c1 + 0) 0
           (omega (arith, some, l1))))))
       tried go false b f_is c1 k1 e n1 l1 m h =
-          go c1 k1 (subst (λ z. told (tested w.setting e1 st) ≡ Fine z c1) (xor_false v b f_is) e) n1 l1 m
+          go c1 k1 (subst (λ z. run_result (tested w.setting e1 st) ≡ Fine z c1) (xor_false v b f_is) e) n1 l1 m
           (subst (λ z. Flagged w s u z st m) f_is h)
 
       begins : Rest → (m : Memory) → Flagged w s u v st m → Will w.im hd d m PA
       begins go m h =
           subst (λ z. Will w.im z d m PA) hd_is
-          (step_then w.im d (λ b m1. Flagged w s u (xor v b) st m1) (test_rates w) n 50 pa
-          (check LOOP ∷ ps ∷ check LOOP ∷ pb ∷ []) m (told (tested w.setting e1 st)) PA
+          (step_then w.im d (λ b m1. Flagged w s u (bool_xor v b) st m1) (test_rates w) n 50 pa
+          (check LOOP ∷ ps ∷ check LOOP ∷ pb ∷ []) m (run_result (tested w.setting e1 st)) PA
           (h1 n d u v st m h)
-          (λ b m1 c1 k1 e i n1 l1. tried go (xor v b) b refl c1 k1 e n1 l1 m1 i)
+          (λ b m1 c1 k1 e i n1 l1. tried go (bool_xor v b) b refl c1 k1 e n1 l1 m1 i)
           (λ x c k e l.
-          let told_is : enters v jj st ≡ Fault x c = then_fault _ x c (λ b. looped (xor v b) (says jj st)) e in
+          let told_is : enters v jj st ≡ Fault x c = then_fault _ x c (λ b. looped (bool_xor v b) (says jj st)) e in
           let cost : 1 ≤ c = fault_costs w.setting e1 st x c e in
           meets_told _ _ (sym told_is) (faults (of_thousand k c 0 (omega (arith, cost, l)))))
           (λ k e l.
-          let told_is : enters v jj st ≡ More = then_more _ (λ b. looped (xor v b) (says jj st)) e in
+          let told_is : enters v jj st ≡ More = then_more _ (λ b. looped (bool_xor v b) (says jj st)) e in
           meets_told _ _ (sym told_is) (more (omega (arith, few, l)))))
 
     rounds : (j : ℕ) → j ≤ n → Rounds j
@@ -472,8 +472,8 @@ module _ (w : World) (thousand : w.rates.steps ≡ 1000) (counts : 1 ≤ w.rates
     loop_does st m h = will_loop w.im d FLAG hd pt m _ (flag_one st m h)
         (turns_more w.im d FLAG hd pt m _ _ (λ o q. entered q) (rounds n (omega arith) true st m h))
       where
-        entered : {t : Told State} {o : Outcome} → Meets (Flagged w s u true) w.rates n 0 t o
-            → Meets (Flagged w s u true) w.rates n 3 t (after 3 o)
+        entered : {t : RunResult State} {o : Outcome} → Meets (Flagged w s u true) w.rates n 0 t o
+            → Meets (Flagged w s u true) w.rates n 3 t (outcome_after 3 o)
         entered (fine {k = k} g x y) = fine g (omega (arith, mul-add w.rates.counts 3 k, x)) (omega (arith, y))
         entered (faults y) = faults (omega (arith, y))
         entered (more {k = k} x) = more (omega (
@@ -484,29 +484,29 @@ module _ (w : World) (thousand : w.rates.steps ≡ 1000) (counts : 1 ≤ w.rates
           x,
         ))
 
-    pub whole_loop : (st : State) (m : Memory) → Open w s u st m
+    pub whole_loop : (st : State) (m : Memory) → HasOpenFrame w s u st m
         → Will w.im (around (line (flips ∷ [])) (loop_cells FLAG hd pt)) d m
-        (Meets (Open w s u) w.rates (suc n) 0 (plus 1 (enters true n st)))
+        (Meets (HasOpenFrame w s u) w.rates (suc n) 0 (plus 1 (enters true n st)))
     whole_loop st m h =
         let ob = w.object_of u in
         let fr = w.frame_of u in
         let cs = m.cells in
         let t = enters true n st in
         let all = wraps_spent w.im d (line (flips ∷ [])) (loop_cells FLAG hd pt) (mk 0 ob fr 0 0 0 0 0 cs)
-        (mk 0 ob fr 0 0 0 1 0 cs) (Flagged w s u true) (Open w s u) w.rates n 3 1 1 1 0 t (λ a. Fine a 0) counts
+        (mk 0 ob fr 0 0 0 1 0 cs) (Flagged w s u true) (HasOpenFrame w s u) w.rates n 3 1 1 1 0 t (λ a. Fine a 0) counts
         (omega arith) (omega (arith, thousand))
         (will_row w.im false (flips ∷ []) 1 _ _ (next refl (omega arith) refl here))
         (loop_does st _ (record { regs_are = refl; open_frame = h.open_frame }))
         (λ a m2 c e r. subst (λ z. Will w.im (line (flips ∷ [])) true z
-        (Meets (Open w s u) w.rates (n - c) 1 (Fine a 0))) (sym (as_known m2 _ r.regs_are))
-        (will_more w.im _ true _ _ _ (λ o q. subst (Meets (Open w s u) w.rates (n - c) 1 (Fine a 0)) (sym q)
+        (Meets (HasOpenFrame w s u) w.rates (n - c) 1 (Fine a 0))) (sym (as_known m2 _ r.regs_are))
+        (will_more w.im _ true _ _ _ (λ o q. subst (Meets (HasOpenFrame w s u) w.rates (n - c) 1 (Fine a 0)) (sym q)
         (fine (record { regs_are = refl; open_frame = r.open_frame }) (omega arith) (omega arith)))
         (will_row w.im true (flips ∷ []) 1 _ _ (next refl (omega arith) refl here)))) in
         let one_more : n + 1 ≡ suc n = omega arith in
         subst (λ z. Will w.im (around (line (flips ∷ [])) (loop_cells FLAG hd pt)) d z
-        (Meets (Open w s u) w.rates (suc n) 0 (plus 1 t))) (sym (as_known m _ h.regs_are))
+        (Meets (HasOpenFrame w s u) w.rates (suc n) 0 (plus 1 t))) (sym (as_known m _ h.regs_are))
         (will_more w.im _ d _ _ _ (λ o q. meets_told _ _ (ap (plus 1) (alone t))
-        (subst (λ k. Meets (Open w s u) w.rates k 0 (plus 1 (told_then t (λ c a. Fine a 0))) o) one_more q))
+        (subst (λ k. Meets (HasOpenFrame w s u) w.rates k 0 (plus 1 (told_then t (λ c a. Fine a 0))) o) one_more q))
         all)
 
 -- ---- the law
@@ -529,7 +529,7 @@ module _ (w : World) (thousand : w.rates.steps ≡ 1000) (counts : 1 ≤ w.rates
 
     -- what one statement says
     told_from : (n : ℕ) (d : Bool) (u : w.Under) (e1 e2 : Expression) (body1 body2 : Statements) (st : State)
-        → told (one w.setting n (From at e1 body1 body2 e2) st)
+        → run_result (one w.setting n (From at e1 body1 body2 e2) st)
         ≡ plus 1 (enters w thousand counts s u d e1 e2 body1 body2 n true n st)
     told_from n d u e1 e2 body1 body2 st =
         let go : Value → Run State = λ v. fault_if LOOP (not (holds v)) >>= λ z. turns w.setting n
@@ -537,7 +537,7 @@ module _ (w : World) (thousand : w.rates.steps ≡ 1000) (counts : 1 ≤ w.rates
         told_after 1 (evaluated w.setting.program e1 st >>= go)
         ∙ ap (plus 1) (
         told_bind (evaluated w.setting.program e1 st) go
-        ∙ same_then (told (evaluated w.setting.program e1 st)) (λ v. told (go v))
+        ∙ same_then (run_result (evaluated w.setting.program e1 st)) (λ v. run_result (go v))
         (λ v. looped w thousand counts s u d e1 e2 body1 body2 n (not (holds v))
         (says w thousand counts s u d e1 e2 body1 body2 n n st))
         (λ v. looped_is w thousand counts s u d e1 e2 body1 body2 n n (not (holds v)) st
@@ -547,9 +547,9 @@ module _ (w : World) (thousand : w.rates.steps ≡ 1000) (counts : 1 ≤ w.rates
         (says w thousand counts s u d e1 e2 body1 body2 n n st)))
         )
 
-    runs_from : (n : ℕ) → Owes w (suc n) → (d : Bool) (u : w.Under) (st : State) (m : Memory) → Open w s u st m
-        → Will w.im (from_code pe pf pg px) d m (Meets (Open w s u) w.rates (suc n) 0
-        (told (one w.setting n (turned d (From at entry first again exit)) st)))
+    runs_from : (n : ℕ) → Owes w (suc n) → (d : Bool) (u : w.Under) (st : State) (m : Memory) → HasOpenFrame w s u st m
+        → Will w.im (from_code pe pf pg px) d m (Meets (HasOpenFrame w s u) w.rates (suc n) 0
+        (run_result (one w.setting n (turned_statement d (From at entry first again exit)) st)))
     runs_from n owes false u st m h =
         let less : Owes w n = λ k l. owes k (omega arith) in
         let hd_is : in_order false (pe ∷ chk ∷ pf ∷ chk ∷ px ∷ []) ≡ head_code =

@@ -3,7 +3,7 @@ use Rattle.std.specs.Prelude.{ℕ, List, [], ◌∷◌, ◌++◌}
 use Rattle.refine_expressions.specs.pisa_isa.declared.cell.Cell.{Cell}
 use Rattle.refine_expressions.specs.paired_code.declared.part.Symbol.{Symbol}
 use Rattle.refine_expressions.specs.paired_code.Layout.{check_equal_cells, branch_cells, loop_cells}
-use Rattle.refine_expressions.specs.paired_code.Rows.{within}
+use Rattle.refine_expressions.specs.paired_code.Rows.{within_symbols}
 use Rattle.refine_expressions.specs.code_conventions.Cells.{xori}
 use Rattle.refine_expressions.specs.code_conventions.declared.faults.TheConstants.{FI, LOOP}
 use Rattle.refine_expressions.specs.code_conventions.declared.registers.TheConstants.{FLAG, NOUGHT}
@@ -14,7 +14,7 @@ flips = xori FLAG 1
 
 -- the flag, 1 outside, is 0 in a part
 abbrev pub part_code : List Symbol → List Symbol
-part_code p = within (flips ∷ []) p
+part_code p = within_symbols (flips ∷ []) p
 
 -- the flag, which is to be 0
 abbrev pub check : (code : ℕ) → List Symbol
@@ -35,4 +35,4 @@ turn_code entry first exit = entry ++ (check LOOP ++ (first ++ (check LOOP ++ ex
 -- A loop: each condition occurs once in the code.
 abbrev pub from_code : (entry first again exit : List Symbol) → List Symbol
 from_code entry first again exit =
-    within (flips ∷ []) (loop_cells FLAG (turn_code entry first exit) again)
+    within_symbols (flips ∷ []) (loop_cells FLAG (turn_code entry first exit) again)

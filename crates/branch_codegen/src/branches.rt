@@ -3,7 +3,7 @@ ghost use Rattle.std.specs.Prelude.{◌≡◌, ◌+◌, ◌∷◌, ◌++◌, Lis
 ghost use Rattle.refine_expressions.specs.paired_code.Code.{unmarked};
 ghost use Rattle.refine_expressions.specs.paired_code.Layout.{branch_cells, loop_cells};
 ghost use Rattle.refine_expressions.specs.paired_code.Rows.{line};
-ghost use Rattle.refine_form.specs.Held.{Holds, HoldsBoth};
+ghost use Rattle.refine_form.specs.Held.{HoldsCode, HoldsBoth};
 ghost use Rattle.branch_codegen.specs.Branches.{flips, part_code, if_code, check, turn_code, from_code};
 ghost use Rattle.branch_codegen.specs.Laws.{IfCode, FromCode};
 
@@ -70,7 +70,7 @@ fn flip_piece(alloc: Global) -> Result<Piece, NoMemory>
 
 fn part_piece(alloc: Global, part: Piece) -> Result<Piece, NoMemory>
     ensures cells { IfOk result (λ p. p.cells ≡ part_code part.cells) }
-    ensures held { IfOk result (λ p. Holds part p) }
+    ensures held { IfOk result (λ p. HoldsCode part p) }
 {
     around(alloc, flip_piece(alloc)?, part)
 }
@@ -146,7 +146,7 @@ fn exit_piece(alloc: Global, exit: Piece) -> Result<Piece, NoMemory>
 fn left_piece(alloc: Global, first: Piece, exit: Piece) -> Result<Piece, NoMemory>
     requires none { exit.marks ≡ [] }
     ensures cells { IfOk result (λ p. p.cells ≡ first.cells ++ (check LOOP ++ exit.cells)) }
-    ensures held { IfOk result (λ p. Holds first p) }
+    ensures held { IfOk result (λ p. HoldsCode first p) }
 {
     seq(first, exit_piece(alloc, exit)?)
 }
@@ -163,7 +163,7 @@ fn turn_piece(alloc: Global, entry: Piece, first: Piece, exit: Piece) -> Result<
     requires entry_none { entry.marks ≡ [] }
     requires exit_none { exit.marks ≡ [] }
     ensures cells { IfOk result (λ p. p.cells ≡ turn_code entry.cells first.cells exit.cells) }
-    ensures held { IfOk result (λ p. Holds first p) }
+    ensures held { IfOk result (λ p. HoldsCode first p) }
 {
     seq(entry_piece(alloc, entry)?, left_piece(alloc, first, exit)?)
 }

@@ -3,7 +3,7 @@ ghost use Rattle.std.specs.Prelude.{◌≤◌, ◌+◌, ◌*◌, length, IfOk};
 ghost use Rattle.rpp_tree.specs.Views.{expression_of};
 ghost use Rattle.refine_expressions.specs.code_scope.Visible.{known_in};
 ghost use Rattle.refine_expressions.specs.register_expressions.Code.{words as words_of};
-ghost use Rattle.refine_expressions.specs.register_expressions.Steps.{tokens};
+ghost use Rattle.refine_expressions.specs.register_expressions.Steps.{token_count};
 ghost use Rattle.refine_form.specs.Held.{HoldsBoth};
 ghost use Rattle.branch_codegen.specs.Laws.{IfLaw, FromLaw};
 
@@ -35,7 +35,7 @@ pub fn if_code(
         no.cells p.cells) }
     ensures held { IfOk result (λ p. HoldsBoth no yes p) }
     ensures size { IfOk result (λ p.
-        length p.cells ≤ 58 * (tokens (expression_of test.now) + tokens (expression_of after.now)) +
+        length p.cells ≤ 58 * (token_count (expression_of test.now) + token_count (expression_of after.now)) +
         length yes.cells + length no.cells + 18) }
 {
     let tested = test_code(alloc, test, scope, FLAG)?;
@@ -62,7 +62,7 @@ pub fn from_code(
     ensures held { IfOk result (λ p. HoldsBoth again first p) }
     ensures size { IfOk result (λ p.
         length p.cells ≤ 58 *
-        (tokens (expression_of entry.now) + tokens (expression_of until.now)) +
+        (token_count (expression_of entry.now) + token_count (expression_of until.now)) +
         length first.cells + length again.cells + 18) }
 {
     let begins = test_code(alloc, entry, scope, FLAG)?;

@@ -9,7 +9,7 @@ use Rattle.std.proofs.Math.Nat.{pow-succ', mod-eq_of_lt}
 use Rattle.buddy_book.specs.Book.{Book, start}
 use Rattle.buddy_book.specs.Shown.{Shown, first_block, list_at, head_address, taken_from, is_sound_list, is_sound}
 use Rattle.buddy_book.specs.Shown.{weight, IsKept}
-use Rattle.buddy_book.specs.Stored.{list_of, free_of, HasRoom, shown, IsStored}
+use Rattle.buddy_book.specs.Stored.{list_of, free_of, HasRoom, shown_book, IsStored}
 use Rattle.buddy_book.proofs.TakeGive.{sound_list, sound_head, doubled}
 use Rattle.buddy_book.proofs.Orders.{doubled-order}
 use Rattle.buddy_book.proofs.StoredLaws.{two_power, list_of-last}
@@ -128,7 +128,7 @@ start-stored h base lists orders from to base_to free room zeros =
     }
 
 pub start-shown : (h base : ℕ) (lists : List (Vec ℕ Global)) (orders : List ℕ) → free_of lists ≡ start h
-    → orders ≡ replicate (2 ^ (h - 1)) 0 → shown h base lists orders
+    → orders ≡ replicate (2 ^ (h - 1)) 0 → shown_book h base lists orders
     ≡ record { h = h; base = base; free = start h; taken = [] }
 start-shown h base lists orders free zeros =
     let none : taken_from 0 orders ≡ [] = ap (taken_from 0) zeros ∙ zeros-taken 0 (2 ^ (h - 1)) in
@@ -138,7 +138,7 @@ start-shown h base lists orders free zeros =
 
 -- the head of a list, as it is stored
 pub head_is : (h base k : ℕ) (lists : List (Vec ℕ Global)) (orders items : List ℕ) (book : Shown) (list : Vec ℕ Global)
-    (half : Option ℕ) → shown h base lists orders ≡ book → slice_get lists (k - 1) ≡ Some list → items ≡ list.items
+    (half : Option ℕ) → shown_book h base lists orders ≡ book → slice_get lists (k - 1) ≡ Some list → items ≡ list.items
     → half ≡ first_block (reverse items) → option_map (λ b. base + b) half ≡ head_address book k
 head_is h base k lists orders items book list half is at same head =
     ap (option_map (λ b. base + b)) (head ∙ ap (λ i. first_block (reverse i)) same ∙ ap first_block (sym listed))

@@ -4,10 +4,10 @@ use Rattle.std.proofs.Common.{arith, List, length, Some, None, slice_get, slice_
 use Rattle.std.proofs.lemmas.Option.{slice_get_within, slice_get-get_or}
 use Rattle.std.proofs.lemmas.List.{length-map, length-set}
 use Rattle.std.proofs.Math.Nat.{pow-suc, mod-add-div, mul-div_left}
-use Rattle.buddy_book.specs.Book.{Book, take, give}
+use Rattle.buddy_book.specs.Book.{Book, take, give_back}
 use Rattle.buddy_book.specs.Shown.{Shown, TakenBlocks, order_in, IsTaken, with_taken, without_taken, taken_from, weight}
 use Rattle.buddy_book.specs.Shown.{size_of, IsKept}
-use Rattle.buddy_book.specs.Stored.{list_of, free_of, HasRoom, shown, IsStored}
+use Rattle.buddy_book.specs.Stored.{list_of, free_of, HasRoom, shown_book, IsStored}
 use Rattle.buddy_book.proofs.Orders.{pow_pos, take_took, give_gave}
 use Rattle.buddy_book.proofs.Table.{entry_of_free, entry_of_taken, taken_of_entry, taken_from-set, taken_from-clear}
 use Rattle.buddy_book.proofs.Table.{order_in-with}
@@ -34,7 +34,7 @@ even (suc n) block h e =
 pub record TookStored (h base k block : ℕ) (lists later : List (Vec ℕ Global)) (orders : List ℕ) : Type 0 where
   pub stored : IsStored h base later (slice_set orders (block / 2) k)
   pub taken : taken_from 0 (slice_set orders (block / 2) k) ≡ with_taken block k (taken_from 0 orders)
-  pub undone : give (free_of later) k block ≡ free_of lists
+  pub undone : give_back (free_of later) k block ≡ free_of lists
   pub with_order : order_in (taken_from 0 (slice_set orders (block / 2) k)) block ≡ Some k
 
 -- the distance of an allocated block
@@ -66,7 +66,7 @@ pub took_stored : (h base k block : ℕ) (lists later : List (Vec ℕ Global)) (
     → IsStored h base lists orders → 1 ≤ k → take (free_of lists) k ≡ Some (block, free_of later) → HasRoom later
     → length later ≡ length lists → TookStored h base k block lists later orders
 took_stored h base k block lists later orders stored from e room count =
-    let book = shown h base lists orders in
+    let book = shown_book h base lists orders in
     let took = take_took h k block (free_of lists) (free_of later) from stored.kept.sound e in
     let two = even k block from took.aligned in
     let at = taken_at h base k block lists later orders stored from e in
@@ -105,7 +105,7 @@ pub give_at : (h base k block : ℕ) (lists : List (Vec ℕ Global)) (orders : L
     → order_in (taken_from 0 orders) block ≡ Some k → GiveAt h base k block lists orders
 give_at h base k block lists orders stored e =
     let entry = entry_of_taken 0 block k orders e in
-    let back = given_back (shown h base lists orders) k block stored.kept e in
+    let back = given_back (shown_book h base lists orders) k block stored.kept e in
     let many : h ≡ length lists = sym stored.kept.lists ∙ length-map lists list_of in
     let two = even k block entry.from_one back.aligned in
     let at = entry.at in
@@ -137,10 +137,10 @@ entry_cleared (suc n) j orders h e = taken_from-clear 0 j n orders e
 
 pub gave_stored : (h base k block : ℕ) (lists later : List (Vec ℕ Global)) (orders : List ℕ)
     → IsStored h base lists orders → order_in (taken_from 0 orders) block ≡ Some k
-    → free_of later ≡ give (free_of lists) k block → HasRoom later → length later ≡ length lists
+    → free_of later ≡ give_back (free_of lists) k block → HasRoom later → length later ≡ length lists
     → GaveStored h base k block lists later orders
 gave_stored h base k block lists later orders stored e given room count =
-    let book = shown h base lists orders in
+    let book = shown_book h base lists orders in
     let at = give_at h base k block lists orders stored e in
     let back = given_back book k block stored.kept e in
     let gave = give_gave h k block (free_of lists) at.from_one back.order_to stored.kept.lists stored.kept.sound
@@ -154,7 +154,7 @@ gave_stored h base k block lists later orders stored e given room count =
     let Q : TakenBlocks → Type 0 = λ t. IsKept (record {
       h = h;
       base = base;
-      free = give (free_of lists) k block;
+      free = give_back (free_of lists) k block;
       taken = t;
     }) in
     let R : Book → Type 0 = λ b. IsKept (record {
@@ -185,7 +185,7 @@ given_block book same address k is taken =
 
 -- what the table says at a place where it is not 0
 pub taken_of_index : (book : Shown) (h base at order : ℕ) (lists : List (Vec ℕ Global)) (orders : List ℕ)
-    → shown h base lists orders ≡ book → order ≡ slice_index_or orders ((at - base) / 2) order
+    → shown_book h base lists orders ≡ book → order ≡ slice_index_or orders ((at - base) / 2) order
     → (at - base) / 2 < length orders → 1 ≤ order → base ≤ at → 2 * ((at - base) / 2) ≡ at - base
     → IsTaken book at order
 taken_of_index book h base at zero lists orders is entry in_table some above is_even = absurd (omega arith)

@@ -1,6 +1,6 @@
 -- What every book keeps, at the start and through takes and gives.
 use Rattle.std.proofs.Common.{◌≡◌, ℕ, ◌+◌, ◌-◌, ◌^◌, ◌%◌, ◌<◌, ◌≤◌, refl, arith, length, Option, Some, None}
-use Rattle.buddy_book.specs.Book.{Book, take, give}
+use Rattle.buddy_book.specs.Book.{Book, take, give_back}
 use Rattle.buddy_book.specs.Shown.{Shown, order_in, with_taken, without_taken, IsAdditive, weight, size_of, cover}
 use Rattle.buddy_book.specs.Shown.{taken_weight, IsKept}
 use Rattle.buddy_book.proofs.Orders.{pow_pos, order_below, take_took, give_gave}
@@ -90,12 +90,12 @@ abbrev given_book : Shown → ℕ → ℕ → Shown
 given_book book k block = record {
   h = book.h;
   base = book.base;
-  free = give book.free k block;
+  free = give_back book.free k block;
   taken = without_taken block book.taken;
 }
 
 pub give_kept : (book : Shown) (k block : ℕ) → IsKept book → 1 ≤ k → order_in book.taken block ≡ Some k
-    → length (give book.free k block) ≡ book.h → IsKept (given_book book k block)
+    → length (give_back book.free k block) ≡ book.h → IsKept (given_book book k block)
 give_kept book k block kept from e lists =
     let back = given_back book k block kept e in
     let gave = give_gave book.h k block book.free from back.order_to kept.lists kept.sound back.aligned back.fits in

@@ -6,7 +6,7 @@ use Rattle.std.proofs.Math.Pow.{pow-lt}
 use Rattle.std.proofs.lemmas.Bool.{ltb-true, ltb-false}
 use Rattle.std.specs.Prelude.{nat_lt}
 use Rattle.buddy_book.specs.Book.{Book, upper_half, take_first, below_taken, take_past, take, lower_half, merged}
-use Rattle.buddy_book.specs.Book.{give_first, give_past, give}
+use Rattle.buddy_book.specs.Book.{give_first, give_past, give_back}
 use Rattle.buddy_book.specs.Shown.{is_sound, IsAdditive, weight}
 use Rattle.buddy_book.proofs.TakeGive.{doubled, TookBlock, TookPast, take_past_took, give_past_gave}
 use Rattle.std.proofs.lemmas.Option.{same_Some}
@@ -92,7 +92,7 @@ doubled-order (suc n) h = let e : suc n - 1 ≡ n = omega arith in ap (λ x. dou
 pub record TookOrder (h k block : ℕ) (book after : Book) : Type 0 where
   pub aligned : block % 2 ^ k ≡ 0
   pub fits : block + 2 ^ k ≤ 2 ^ h
-  pub undone : give after k block ≡ book
+  pub undone : give_back after k block ≡ book
   pub sound : is_sound (2 ^ h) 2 after ≡ true
   pub weights : (f : ℕ → ℕ → ℕ) → IsAdditive f → weight f 2 book ≡ f block (2 ^ k) + weight f 2 after
   pub count : length after ≡ length book
@@ -121,10 +121,10 @@ take_took h k block book after from sound e =
 
 -- what a give of order k to a sound book did
 pub record GaveOrder (h k block : ℕ) (book : Book) : Type 0 where
-  pub undone : take (give book k block) k ≡ Some (block, book)
-  pub sound : is_sound (2 ^ h) 2 (give book k block) ≡ true
-  pub weights : (f : ℕ → ℕ → ℕ) → IsAdditive f → weight f 2 (give book k block) ≡ f block (2 ^ k) + weight f 2 book
-  pub count : length (give book k block) ≡ length book
+  pub undone : take (give_back book k block) k ≡ Some (block, book)
+  pub sound : is_sound (2 ^ h) 2 (give_back book k block) ≡ true
+  pub weights : (f : ℕ → ℕ → ℕ) → IsAdditive f → weight f 2 (give_back book k block) ≡ f block (2 ^ k) + weight f 2 book
+  pub count : length (give_back book k block) ≡ length book
 
 abbrev GaveSize : ℕ → ℕ → ℕ → ℕ → Book → Type 0
 GaveSize h lower size block book =

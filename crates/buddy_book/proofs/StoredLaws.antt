@@ -8,7 +8,7 @@ use Rattle.std.proofs.lemmas.Option.{slice_get-map, slice_get-get_or, same_Some}
 use Rattle.std.proofs.lemmas.List.{map-set, length-map, length-set, length-reverse, reverse-append}
 use Rattle.std.proofs.Math.Nat.{pow-succ', pow-le-pow_right, le_of_mul-le-mul_right}
 use Rattle.std.proofs.lemmas.Nat.{pow-add}
-use Rattle.buddy_book.specs.Book.{Book, below_taken, take_past, take, lower_half, give_past, give}
+use Rattle.buddy_book.specs.Book.{Book, below_taken, take_past, take, lower_half, give_past, give_back}
 use Rattle.buddy_book.specs.Shown.{is_sound, list_weight, weight, size_of}
 use Rattle.buddy_book.specs.Stored.{list_of, free_of, HasRoom}
 use Rattle.buddy_book.proofs.TakeGive.{doubled, lower_half-some}
@@ -190,7 +190,7 @@ room-empty lists at list room e empty =
 
 -- a give if the block merges
 give_above : (book : Book) (k block low : ℕ) (free : List ℕ) → 1 ≤ k → slice_get book (k - 1) ≡ Some free
-    → lower_half (2 ^ k) block free ≡ Some low → give book k block ≡ give (slice_set book (k - 1) []) (k + 1) low
+    → lower_half (2 ^ k) block free ≡ Some low → give_back book k block ≡ give_back (slice_set book (k - 1) []) (k + 1) low
 give_above book zero block low free h e is = absurd (omega arith)
 give_above book (suc n) block low free h e is =
     let same : suc n - 1 ≡ n = omega arith in
@@ -205,15 +205,15 @@ give_above book (suc n) block low free h e is =
 
 pub give-merge : (lists : List (Vec ℕ Global)) (k block low : ℕ) (list emptied : Vec ℕ Global) → 1 ≤ k
     → slice_get lists (k - 1) ≡ Some list → lower_half (2 ^ k) block (list_of list) ≡ Some low → emptied.items ≡ []
-    → give (free_of lists) k block ≡ give (free_of (slice_set lists (k - 1) emptied)) (k + 1) low
+    → give_back (free_of lists) k block ≡ give_back (free_of (slice_set lists (k - 1) emptied)) (k + 1) low
 give-merge lists k block low list emptied from at is empty =
     give_above (free_of lists) k block low (list_of list) from (free_of-at lists (k - 1) list at) is
-    ∙ ap (λ l. give (slice_set (free_of lists) (k - 1) l) (k + 1) low) (sym (ap reverse empty))
-    ∙ ap (λ b. give b (k + 1) low) (sym (map-set list_of lists (k - 1) emptied))
+    ∙ ap (λ l. give_back (slice_set (free_of lists) (k - 1) l) (k + 1) low) (sym (ap reverse empty))
+    ∙ ap (λ b. give_back b (k + 1) low) (sym (map-set list_of lists (k - 1) emptied))
 
 pub give-head : (lists : List (Vec ℕ Global)) (k block : ℕ) (list put : Vec ℕ Global)
     → slice_get lists (k - 1) ≡ Some list → lower_half (2 ^ k) block (list_of list) ≡ None
-    → put.items ≡ list.items ++ block ∷ [] → free_of (slice_set lists (k - 1) put) ≡ give (free_of lists) k block
+    → put.items ≡ list.items ++ block ∷ [] → free_of (slice_set lists (k - 1) put) ≡ give_back (free_of lists) k block
 give-head lists k block list put at is e =
     map-set list_of lists (k - 1) put
     ∙ ap (λ l. slice_set (free_of lists) (k - 1) l) (list_of-last put list block e)

@@ -76,5 +76,5 @@ give_past (suc lower) size block [] = []
 give_past (suc lower) size block (free ∷ higher) = free ∷ give_past lower size block higher
 
 -- frees a block of order k
-abbrev pub give : Book → ℕ → ℕ → Book
-give book k block = give_past (k - 1) (2 ^ k) block book
+abbrev pub give_back : Book → ℕ → ℕ → Book
+give_back book k block = give_past (k - 1) (2 ^ k) block book

@@ -1,6 +1,6 @@
 -- The blocks of a run: its requests to the heap, folded over the free lists.
 use Rattle.std.specs.Prelude.{ℕ, suc, nat_eq, List, [], ◌∷◌, Option, Some, None, if◌then◌else◌}
-use Rattle.buddy_book.specs.Book.{Book, start, take, give}
+use Rattle.buddy_book.specs.Book.{Book, start, take, give_back}
 
 -- a request to the heap: a block of an order for a name, or the block of a name back
 pub data Request : Type 0 where
@@ -45,7 +45,7 @@ after_request (Taken name order) (Some placing) =
     with_block name placing.blocks (take placing.book order)
 after_request (Given name order) (Some placing) =
     Some (record {
-      book = give placing.book order (block_of placing.blocks name);
+      book = give_back placing.book order (block_of placing.blocks name);
       blocks = without_name placing.blocks name;
     })
 

@@ -20,12 +20,12 @@ pub record HasRoom (lists : List (Vec ℕ Global)) : Type 0 where
       → 2 ^ (length lists - 1 - at) ≤ vec_capacity list
 
 -- what is shown of a stored book
-abbrev pub shown : (h base : ℕ) → List (Vec ℕ Global) → List ℕ → Shown
-shown h base lists orders =
+abbrev pub shown_book : (h base : ℕ) → List (Vec ℕ Global) → List ℕ → Shown
+shown_book h base lists orders =
     record { h = h; base = base; free = free_of lists; taken = taken_from 0 orders }
 
 -- what every stored book keeps; its table has an entry for each second word of the heap
 pub record IsStored (h base : ℕ) (lists : List (Vec ℕ Global)) (orders : List ℕ) : Type 0 where
-  pub kept : IsKept (shown h base lists orders)
+  pub kept : IsKept (shown_book h base lists orders)
   pub room : HasRoom lists
   pub table : 2 * length orders ≡ 2 ^ h

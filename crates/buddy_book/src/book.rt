@@ -1,6 +1,6 @@
 // The free lists, with the allocated blocks.
 ghost use Rattle.std.specs.Prelude.{◌≡◌, ◌+◌, ◌-◌, ◌*◌, ◌^◌, ◌%◌, ◌≤◌, [], Some, None, IfOk, IfSome, IfNone};
-ghost use Rattle.buddy_book.specs.Book.{start, take, give};
+ghost use Rattle.buddy_book.specs.Book.{start, take, give_back};
 ghost use Rattle.buddy_book.specs.Shown.{IsTaken, with_taken, without_taken, head_address};
 
 use crate::lists::{empty_lists, give_block, head_of, take_block, zeros};
@@ -23,11 +23,11 @@ pub struct Book {
 
 impl Model for Book {
     ghost use Rattle.buddy_book.specs.Shown.{Shown};
-    ghost use Rattle.buddy_book.specs.Stored.{shown, IsStored};
+    ghost use Rattle.buddy_book.specs.Stored.{shown_book, IsStored};
 
     ghost Value = { Shown };
 
-    ghost view = { λ b. shown b.h b.base b.lists.items b.orders.items };
+    ghost view = { λ b. shown_book b.h b.base b.lists.items b.orders.items };
 
     ghost invariant = { λ b. IsStored b.h b.base b.lists.items b.orders.items };
 }
@@ -64,7 +64,7 @@ impl Book {
             ≡ with_taken (at - self.old.base) k self.old.taken) }
         ensures is_taken { IfSome result (λ at. IsTaken self.new at k) }
         ensures heap { self.new ≡ record self.old { free = self.new.free; taken = self.new.taken } }
-        ensures undone { IfSome result (λ at. give self.new.free k (at - self.old.base) ≡ self.old.free) }
+        ensures undone { IfSome result (λ at. give_back self.new.free k (at - self.old.base) ≡ self.old.free) }
     {
         match take_block(&mut self.lists, k) {
             None => None,
@@ -78,7 +78,7 @@ impl Book {
     /// Frees an allocated block.
     pub fn give(&mut self, k: u32, block: u32)
         requires { IsTaken self.old block k }
-        ensures gives { self.new.free ≡ give self.old.free k (block - self.old.base) }
+        ensures gives { self.new.free ≡ give_back self.old.free k (block - self.old.base) }
         ensures taken { self.new.taken ≡ without_taken (block - self.old.base) self.old.taken }
         ensures heap { self.new ≡ record self.old { free = self.new.free; taken = self.new.taken } }
         ensures undone { take self.new.free k ≡ Some (block - self.old.base, self.old.free) }

@@ -1,6 +1,6 @@
 // The free lists, one for each order, and takes and gives on them.
 ghost use Rattle.std.specs.Prelude.{IfOk, replicate, ◌-◌, ◌≡◌, ◌+◌, ◌*◌, ◌^◌, ◌<◌, ◌≤◌, [], ◌∷◌, ◌++◌, length, reverse, vec_len, vec_capacity, Some, None, IsTrue, IfSome, IfNone};
-ghost use Rattle.buddy_book.specs.Book.{start, take, give, lower_half};
+ghost use Rattle.buddy_book.specs.Book.{start, take, give_back, lower_half};
 ghost use Rattle.buddy_book.specs.Shown.{first_block, is_sound, weight, size_of};
 ghost use Rattle.buddy_book.specs.Stored.{list_of, free_of, HasRoom};
 
@@ -79,7 +79,7 @@ pub(crate) fn give_block(lists: &mut Vec<Vec<u32>>, k: u32, block: u32)
     requires room { HasRoom lists.old.items }
     requires free_words { weight size_of 2 (free_of lists.old.items) + 2 ^ k
         ≤ 2 ^ length lists.old.items }
-    ensures gives { free_of lists.new.items ≡ give (free_of lists.old.items) k block }
+    ensures gives { free_of lists.new.items ≡ give_back (free_of lists.old.items) k block }
     ensures count { length lists.new.items ≡ length lists.old.items }
     ensures has_room { HasRoom lists.new.items }
 {

@@ -2,7 +2,7 @@
 use Rattle.std.proofs.Common.{List, [], ◌∷◌, refl}
 use Rattle.paired_code.specs.pisa_isa.declared.cell.Cell.{Cell}
 use Rattle.paired_code.specs.Layout.{Equal}
-use Rattle.paired_code.specs.Closed.{Shape, Nothing, One, Then, Turned, Loop, Try, IsMade, HasShape}
+use Rattle.paired_code.specs.Closed.{Shape, Nothing, One, Then, Turned, Loop, Try, IsShapeMade, HasShape}
 use Rattle.paired_code.proofs.Undone.{AllPlain}
 use Rattle.paired_code.specs.code_conventions.declared.faults.TheConstants.{HEAP_FULL}
 use Rattle.buddy_pisa.specs.declared.rows.TheConstants.{FLAG, EITHER, ZERO}
@@ -37,14 +37,14 @@ order_shape = within_shape order_row (Then search_shape (Then (line_shape take_r
 abbrev allocator_shape : Shape
 allocator_shape = within_shape limits_row (Then (within_shape over_row check_shape) order_shape)
 
-line_made : (cs : List Cell) → AllPlain cs → IsMade (line_shape cs)
+line_made : (cs : List Cell) → AllPlain cs → IsShapeMade (line_shape cs)
 line_made [] p = tt
 line_made (c ∷ cs) p = ((p.0, p.1), line_made cs p.2)
 
-within_made : (row : List Cell) (piece : Shape) → AllPlain row → IsMade piece → IsMade (within_shape row piece)
+within_made : (row : List Cell) (piece : Shape) → AllPlain row → IsShapeMade piece → IsShapeMade (within_shape row piece)
 within_made row piece p made = (line_made row p, (made, line_made row p))
 
-search_made : IsMade search_shape
+search_made : IsShapeMade search_shape
 search_made = (
   (
     line_made bottom_row plain_bottom,
@@ -54,7 +54,7 @@ search_made = (
   (line_made up_row plain_up, within_made above_row check_shape plain_above tt),
 )
 
-halve_made : IsMade halve_shape
+halve_made : IsShapeMade halve_shape
 halve_made = (
   (
     within_made merge_row (line_shape apart_row) plain_merge (line_made apart_row plain_apart),
@@ -63,7 +63,7 @@ halve_made = (
   (line_made up_row plain_up, line_made half_row plain_half),
 )
 
-order_made : IsMade order_shape
+order_made : IsShapeMade order_shape
 order_made = within_made order_row (Then search_shape (Then (line_shape take_row) halve_shape)) plain_order
     (search_made, (line_made take_row plain_take, halve_made))
 

@@ -16,7 +16,7 @@ use Rattle.std.specs.Option.{unwrap_or}
 use Rattle.std.specs.Str.{bytes_eq}
 use Rattle.rpp_tree.specs.Tree.{ClassText, Source}
 use Rattle.rpp_tree.specs.declared.tree.Ident.{Ident}
-use Rattle.class_rules.specs.Rules.{class_names}
+use Rattle.class_rules.specs.Rules.{all_class_names}
 use Rattle.class_rules.specs.Chains.{parent_named, parents, with_last, chain, chain_of}
 
 abbrev pub parent : List (Option ℕ) → ℕ → Option ℕ
@@ -184,8 +184,8 @@ within n (suc steps) ps (Some class) line parents_in own h q there =
 pub parents_in : (program : Source) (k number : ℕ) → parent (parents program) k ≡ Some number
     → number < length program.classes
 parents_in program k number h =
-    let named : length (class_names program) ≡ length program.classes = rw length-map refl in
-    subst (λ m. number < m) named (known_parents (class_names program) program.classes k number h)
+    let named : length (all_class_names program) ≡ length program.classes = rw length-map refl in
+    subst (λ m. number < m) named (known_parents (all_class_names program) program.classes k number h)
 
 own_number : (n class number : ℕ) → class < n → Some class ≡ Some number → number < n
 own_number n class number h e = let same : class ≡ number = cc in subst (λ c. c < n) same h

@@ -9,8 +9,8 @@ use Rattle.std.specs.Prelude.{nat_eq, ◌||◌}
 use Rattle.std.specs.List.{list_any}
 use Rattle.std.specs.Option.{unwrap_or}
 use Rattle.rpp_tree.specs.Tree.{ClassText, Source}
-use Rattle.class_rules.specs.Chains.{parents, parent_named, chain, chain_of, line_of}
-use Rattle.class_rules.specs.Rules.{class_names}
+use Rattle.class_rules.specs.Chains.{parents, parent_named, chain, chain_of, class_line}
+use Rattle.class_rules.specs.Rules.{all_class_names}
 use Rattle.class_rules.specs.Members.{class_at, fields_along}
 use Rattle.class_rules.specs.Classes.{class_fields, inherits}
 use Rattle.class_rules.proofs.ChainEnds.{parent, IsPushed, pushed_from, nothing_on, parents_in, chain_ends}
@@ -109,7 +109,7 @@ own_line program (suc n) class line h =
     record { steps = n; shorter = p.shorter; is = p.pushed; up = p.ended }
 
 pub line_is : (program : Source) (class steps : ℕ) (line : List ℕ) → class < length program.classes
-    → chain steps (parents program) (Some class) ≡ Some line → line_of program class ≡ line
+    → chain steps (parents program) (Some class) ≡ Some line → class_line program class ≡ line
 line_is program class steps line inside h = ap (λ r. unwrap_or r []) (chain_ends program class steps line inside h)
 
 pub front_of : (class : ℕ) (shorter : List ℕ) → take (length (shorter ++ class ∷ []) - 1) (shorter ++ class ∷ [])
@@ -122,7 +122,7 @@ front_of class shorter = let e : length (shorter ++ class ∷ []) - 1 ≡ length
 pub record Inherits (program : Source) (own class : ℕ) : Type 0 where
   pub line : List ℕ
   pub chain_is : chain_of program own ≡ Some line
-  pub line_is : line_of program own ≡ line
+  pub line_is : class_line program own ≡ line
   pub last : OwnLine program own line
   pub there : on class last.shorter ≡ true
 
@@ -131,13 +131,13 @@ inherits_parts program own class h = by (chain_of program own) refl
   where
     by : (r : Option (List ℕ)) → chain_of program own ≡ r → Inherits program own class
     by None e =
-        let nothing : line_of program own ≡ [] = ap (λ r. unwrap_or r []) e in
-        let f : list_any (λ above. nat_eq above class) (take (length (line_of program own) - 1) (line_of program own))
+        let nothing : class_line program own ≡ [] = ap (λ r. unwrap_or r []) e in
+        let f : list_any (λ above. nat_eq above class) (take (length (class_line program own) - 1) (class_line program own))
         ≡ false = ap (λ l. list_any (λ above. nat_eq above class) (take (length l - 1) l)) nothing in
         absurd (cc)
     by (Some line) e =
         let l = own_line program (length program.classes) own line e in
-        let is : line_of program own ≡ line = ap (λ r. unwrap_or r []) e in
+        let is : class_line program own ≡ line = ap (λ r. unwrap_or r []) e in
         record {
           line = line;
           chain_is = e;
@@ -166,11 +166,11 @@ inherits_inside program own class i = by (parent (parents program) own) refl
     by (Some number) e = let p = parent_inside (parents program) own number e in
         omega (
           arith,
-          length-map program.classes (λ (class : ClassText). parent_named (class_names program)
+          length-map program.classes (λ (class : ClassText). parent_named (all_class_names program)
               class.parent),
         )
 
-pub inherits_by : (program : Source) (own class : ℕ) (shorter : List ℕ) → line_of program own ≡ shorter ++ own ∷ []
+pub inherits_by : (program : Source) (own class : ℕ) (shorter : List ℕ) → class_line program own ≡ shorter ++ own ∷ []
     → on class shorter ≡ true → inherits program own class ≡ true
 inherits_by program own class shorter is h = ap (λ z. on class (take (length z - 1) z)) is
     ∙ ap (on class) (front_of own shorter) ∙ h
@@ -178,7 +178,7 @@ inherits_by program own class shorter is h = ap (λ z. on class (take (length z 
 -- a class above another: its line is the first part of the other's
 pub record Over (program : Source) (own class : ℕ) : Type 0 where
   pub below : List ℕ
-  pub is : line_of program own ≡ line_of program class ++ below
+  pub is : class_line program own ≡ class_line program class ++ below
 
 pub over_of : (program : Source) (own class : ℕ) → is_or_inherits program own class ≡ true → Over program own class
 over_of program own class h = by (nat_eq own class) refl h
@@ -186,8 +186,8 @@ over_of program own class h = by (nat_eq own class) refl h
     by : (b : Bool) → nat_eq own class ≡ b → (b || inherits program own class) ≡ true → Over program own class
     by true e q = record {
       below = [];
-      is = ap (line_of program) (eqb-true own class e)
-          ∙ sym (append-nil (line_of program class));
+      is = ap (class_line program) (eqb-true own class e)
+          ∙ sym (append-nil (class_line program class));
     }
     by false e q =
         let i = inherits_parts program own class q in
@@ -217,7 +217,7 @@ front_fields program own class h =
     record {
       more = fields_along program o.below;
       is = ap (fields_along program) o.is
-          ∙ fields_along-append program (line_of program class) o.below;
+          ∙ fields_along-append program (class_line program class) o.below;
     }
 
 -- ---- through a class between
@@ -244,14 +244,14 @@ is_through program a b c h k = by (nat_eq a b) refl h (nat_eq b c) refl k
         in
         let r = in_range (length program.classes) i.last.steps (parents program) (parent (parents program) a)
         i.last.shorter b (parents_in program) (parents_in program a) i.last.up i.there in
-        let l : line_of program b ≡ s.own = line_is program b s.steps s.own r s.ends in
+        let l : class_line program b ≡ s.own = line_is program b s.steps s.own r s.ends in
         let there : on c s.own ≡ true = ap (on c) (sym l ∙ j.line_is ∙ j.last.is)
         ∙ on_left c j.last.shorter (b ∷ []) j.there in
         is_or_by program a c (inherits_by program a c i.last.shorter (i.line_is ∙ i.last.is)
         (ap (on c) s.is ∙ on_left c s.own s.below there))
 
 -- a class on a line
-pub on_line_above : (program : Source) (own class : ℕ) (shorter : List ℕ) → line_of program own ≡ shorter ++ own ∷ []
+pub on_line_above : (program : Source) (own class : ℕ) (shorter : List ℕ) → class_line program own ≡ shorter ++ own ∷ []
     → on class (shorter ++ own ∷ []) ≡ true → is_or_inherits program own class ≡ true
 on_line_above program own class shorter is h = by (on class shorter) refl
   where

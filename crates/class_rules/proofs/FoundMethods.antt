@@ -11,12 +11,12 @@ use Rattle.std.specs.Str.{bytes_eq}
 use Rattle.rpp_tree.specs.Tree.{Procedure, ClassText, Source}
 use Rattle.rpp_tree.specs.Limits.{IsSmallMethod}
 use Rattle.class_rules.specs.declared.method.MethodId.{MethodId}
-use Rattle.class_rules.specs.Chains.{parents, chain_of, line_of}
+use Rattle.class_rules.specs.Chains.{parents, chain_of, class_line}
 use Rattle.class_rules.specs.Members.{Slots, class_at, no_procedure, slots_along}
 use Rattle.class_rules.specs.Overrides.{parameters_of, run_at}
 use Rattle.class_rules.specs.Classes.{class_slots, method_slot, dispatch, procedure_at, method_named, inherits}
 use Rattle.class_rules.specs.Table.{Table, table_of, slots_in, slot_in, dispatch_in}
-use Rattle.class_rules.specs.Statements.{passed, in_turn, each_passes}
+use Rattle.class_rules.specs.Statements.{verdict_passed, in_turn, each_passes}
 use Rattle.class_rules.specs.Program.{check_method, setting_in, check_class, check_classes, IsAccepted}
 use Rattle.class_rules.specs.Inheritance.{is_or_inherits, kind_of_var, IsDispatched, CallsFindMethods}
 use Rattle.class_rules.proofs.Tables.{table_reads}
@@ -31,15 +31,15 @@ use Rattle.class_rules.proofs.InheritedSlots.{entries_along, extends_own, slot_n
 -- ---- every method is checked, and small
 
 each_passed : {A : Type 0} (rule : A → Rattle.class_rules.specs.Statements.Verdict) (xs : List A) (k : ℕ) (x : A)
-    → each_passes rule xs ≡ passed → slice_get xs k ≡ Some x → rule x ≡ passed
+    → each_passes rule xs ≡ verdict_passed → slice_get xs k ≡ Some x → rule x ≡ verdict_passed
 each_passed rule [] k x h at = absurd (cc)
 each_passed rule (y ∷ xs) zero x h at = let e : y ≡ x = cc in ap rule (sym e)
     ∙ (both_passed (rule y) (each_passes rule xs) h).0
 each_passed rule (y ∷ xs) (suc k) x h at = each_passed rule xs k x (both_passed (rule y) (each_passes rule xs) h).1 at
 
 class_checked : (program : Source) (table : Table) (number : ℕ) (classes : List ClassText) (k : ℕ) (c : ClassText)
-    → check_classes program table number classes ≡ passed → slice_get classes k ≡ Some c
-    → check_class program table (number + k) c ≡ passed
+    → check_classes program table number classes ≡ verdict_passed → slice_get classes k ≡ Some c
+    → check_class program table (number + k) c ≡ verdict_passed
 class_checked program table number [] k c h at = absurd (cc)
 class_checked program table number (x ∷ classes) zero c h at =
     let e : x ≡ c = cc in
@@ -53,7 +53,7 @@ class_checked program table number (x ∷ classes) (suc k) c h at =
 
 pub method_checked : (program : Source) → IsAccepted program → (class number : ℕ) (method : Procedure)
     → class < length program.classes → slice_get (class_at program class).methods number ≡ Some method
-    → check_method (setting_in program (table_of program) class) method ≡ passed
+    → check_method (setting_in program (table_of program) class) method ≡ verdict_passed
 method_checked program accepted class number method inside at =
     let z : 0 + class ≡ class = omega arith in
     let c = class_checked program (table_of program) 0 program.classes class (class_at program class) accepted.types
@@ -94,7 +94,7 @@ slot_inside program class slot name h = by (nat_lt class (length program.classes
 -- the line of a class of the program, if it has one
 pub record HasLine (program : Source) (own : ℕ) : Type 0 where
   pub shorter : List ℕ
-  pub is : line_of program own ≡ shorter ++ own ∷ []
+  pub is : class_line program own ≡ shorter ++ own ∷ []
   pub chain_is : chain_of program own ≡ Some (shorter ++ own ∷ [])
 
 pub has_line : (program : Source) (own p : ℕ) (x : List ℕ × MethodId) → slice_get (class_slots program own) p ≡ Some x
@@ -103,7 +103,7 @@ has_line program own p x h = by (chain_of program own) refl
   where
     by : (r : Option (List ℕ)) → chain_of program own ≡ r → HasLine program own
     by None e =
-        let nothing : line_of program own ≡ [] = ap (λ r. unwrap_or r []) e in
+        let nothing : class_line program own ≡ [] = ap (λ r. unwrap_or r []) e in
         let none : class_slots program own ≡ [] = ap (slots_along program []) nothing in
         let f = ap (λ (s : Slots). slice_get s p) none in
         absurd (cc)
@@ -175,7 +175,7 @@ dispatched_method program accepted own class slot name own_in above h =
         class = class';
         inside = class_in;
         above = on_line_above program own class' line.shorter line.is entry.known;
-        checked = subst (λ m. check_method (setting_in program (table_of program) class') m ≡ passed) (sym method_is)
+        checked = subst (λ m. check_method (setting_in program (table_of program) class') m ≡ verdict_passed) (sym method_is)
             (method_checked program accepted class' x.0.1.method entry.method class_in entry.there);
         same_types = subst (λ (m : Procedure). map (kind_of_var program) m.params
             ≡ map (kind_of_var program) (parameters_of program (dispatch_in (table_of program) class slot)))

@@ -9,7 +9,7 @@ use Rattle.rpp_tree.specs.declared.tree.Program.{Program}
 use Rattle.rpp_tree.specs.Views.{source_of}
 use Rattle.rpp_tree.specs.Tree.{ClassText, Source}
 use Rattle.class_rules.specs.First.{first_at}
-use Rattle.class_rules.specs.Chains.{parents, chain, chain_of, line_of}
+use Rattle.class_rules.specs.Chains.{parents, chain, chain_of, class_line}
 use Rattle.class_rules.specs.Members.{no_class, class_at, field_name, field_taken, taken_field, fields_along, class_fields}
 use Rattle.class_rules.specs.Members.{inherited, duplicate_field_at, duplicate_field}
 use Rattle.class_rules.proofs.ChainEnds.{parent, pushed_from, nothing_on, parents_in, chain_ends}
@@ -67,7 +67,7 @@ fresh_line program unique (suc steps) (Some class) line inside h =
     let own : duplicate_field_at program class (class_at program class) ≡ None =
     subst (λ m. duplicate_field_at program m (class_at program class) ≡ None) (zero-add class)
     (passed_at (duplicate_field_at program) 0 class program.classes unique (inside class refl)) in
-    let ended : line_of program class ≡ p.shorter ++ class ∷ [] =
+    let ended : class_line program class ≡ p.shorter ++ class ∷ [] =
     ap (λ r. unwrap_or r []) (chain_ends program class (suc steps) line (inside class refl) h) ∙ p.pushed in
     let inherits : inherited program class ≡ fields_along program p.shorter =
     ap (λ l. fields_along program (take (length l - 1) l)) ended

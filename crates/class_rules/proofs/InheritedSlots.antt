@@ -16,7 +16,7 @@ use Rattle.class_rules.specs.declared.method.MethodId.{MethodId}
 use Rattle.class_rules.specs.Refusal.{refused}
 use Rattle.class_rules.specs.First.{refused_if, first_in, first_at}
 use Rattle.class_rules.specs.Rules.{duplicate_class, unknown_class}
-use Rattle.class_rules.specs.Chains.{parents, chain, line_of, inheritance_cycle}
+use Rattle.class_rules.specs.Chains.{parents, chain, class_line, inheritance_cycle}
 use Rattle.class_rules.specs.Members.{Slots, class_at, no_class, no_procedure, with_methods, slots_along}
 use Rattle.class_rules.specs.Members.{duplicate_field}
 use Rattle.class_rules.specs.Overrides.{same_type, same_types, parameters_of, no_method, run_at, override_in_slot}
@@ -307,7 +307,7 @@ module _ (program : Source) where
   module _ (fit : differing_override program ≡ None) where
     -- one class more on a line
     step_extends : (class : ℕ) (shorter : List ℕ) → class < length program.classes
-        → line_of program class ≡ shorter ++ class ∷ [] → Extends (slots_along program [] shorter)
+        → class_line program class ≡ shorter ++ class ∷ [] → Extends (slots_along program [] shorter)
         (slots_along program [] (shorter ++ class ∷ []))
     step_extends class shorter inside is =
         let base = slots_along program [] shorter in
@@ -344,7 +344,7 @@ module _ (program : Source) where
         inside : class < length program.classes
         inside = own class refl
 
-        line_is_own : line_of program class ≡ line
+        line_is_own : class_line program class ≡ line
         line_is_own = line_is program class (suc steps) line inside h
 
         by : (shorter : List ℕ) → line ≡ shorter ++ class ∷ []

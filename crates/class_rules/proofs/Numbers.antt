@@ -5,7 +5,7 @@ use Rattle.std.proofs.lemmas.List.{length-map}
 use Rattle.rpp_tree.specs.declared.tree.Program.{Program}
 use Rattle.rpp_tree.specs.declared.tree.Class.{Class}
 use Rattle.rpp_tree.specs.Views.{source_of, class_text_of}
-use Rattle.class_rules.specs.Chains.{lines, line_of}
+use Rattle.class_rules.specs.Chains.{lines, class_line}
 use Rattle.class_rules.specs.Members.{class_at, no_class}
 use Rattle.std.specs.Option.{unwrap_or}
 use Rattle.std.proofs.lemmas.Option.{unwrap_or-slice_get}
@@ -36,9 +36,9 @@ mapped-get f (x ∷ xs) zero d other h = refl
 mapped-get f (x ∷ xs) (suc i) d other h = mapped-get f xs i d other (omega arith)
 
 pub line-known : (program : Program) (number : ℕ) → number < length program.classes.items
-    → unwrap_or (slice_get (lines (source_of program)) number) [] ≡ line_of (source_of program) number
+    → unwrap_or (slice_get (lines (source_of program)) number) [] ≡ class_line (source_of program) number
 line-known program number h =
-    each_below-get (line_of (source_of program)) (length (map class_text_of program.classes.items)) number []
+    each_below-get (class_line (source_of program)) (length (map class_text_of program.classes.items)) number []
     (rw length-map h)
 
 pub class-known : (program : Program) (number : ℕ) (d : Class) → number < length program.classes.items

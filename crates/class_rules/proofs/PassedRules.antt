@@ -5,22 +5,22 @@ use Rattle.std.specs.Option.{ok_or}
 use Rattle.class_rules.specs.Refusal.{Refusal}
 use Rattle.class_rules.specs.declared.kind.Kind.{Kind}
 use Rattle.class_rules.specs.declared.kind.Kind.TheVariants as kind
-use Rattle.class_rules.specs.Expressions.{and_then, is_int}
-use Rattle.class_rules.specs.Statements.{Verdict, passed, required, in_turn, same_kind}
+use Rattle.class_rules.specs.Expressions.{then_checked, is_int}
+use Rattle.class_rules.specs.Statements.{Verdict, verdict_passed, required, in_turn, same_kind}
 use Rattle.std.proofs.lemmas.Bool.{eqb-true}
 
-pub both_passed : (a b : Verdict) → in_turn a b ≡ passed → (a ≡ passed) × (b ≡ passed)
+pub both_passed : (a b : Verdict) → in_turn a b ≡ verdict_passed → (a ≡ verdict_passed) × (b ≡ verdict_passed)
 both_passed (Ok v) b h = (refl, h)
 both_passed (Err e) b h = absurd (cc)
 
-pub in_turn_passes : (a b : Verdict) → a ≡ passed → b ≡ passed → in_turn a b ≡ passed
+pub in_turn_passes : (a b : Verdict) → a ≡ verdict_passed → b ≡ verdict_passed → in_turn a b ≡ verdict_passed
 in_turn_passes a b e f = ap (λ z. in_turn z b) e ∙ f
 
-pub held : (b : Bool) (e : Refusal) → required b e ≡ passed → b ≡ true
+pub held : (b : Bool) (e : Refusal) → required b e ≡ verdict_passed → b ≡ true
 held true e h = refl
 held false e h = absurd (cc)
 
-pub required_passes : (b : Bool) (e : Refusal) → b ≡ true → required b e ≡ passed
+pub required_passes : (b : Bool) (e : Refusal) → b ≡ true → required b e ≡ verdict_passed
 required_passes b e h = ap (λ z. required z e) h
 
 -- a rule that passed on its answer
@@ -30,14 +30,14 @@ pub record HandedOn {A B : Type 0} (r : Result A Refusal) (next : A → Result B
   pub is : r ≡ Ok value
   pub goes : next value ≡ end
 
-pub handed_on : {A B : Type 0} (r : Result A Refusal) (next : A → Result B Refusal) (y : B) → and_then r next ≡ Ok y
+pub handed_on : {A B : Type 0} (r : Result A Refusal) (next : A → Result B Refusal) (y : B) → then_checked r next ≡ Ok y
     → HandedOn r next (Ok y)
 handed_on (Ok value) next y h = record { value = value; is = refl; goes = h }
 handed_on (Err e) next y h = absurd (cc)
 
 pub hands_on : {A B : Type 0} (r : Result A Refusal) (next : A → Result B Refusal) (x : A) (end : Result B Refusal)
-    → r ≡ Ok x → next x ≡ end → and_then r next ≡ end
-hands_on r next x end e f = ap (λ z. and_then z next) e ∙ f
+    → r ≡ Ok x → next x ≡ end → then_checked r next ≡ end
+hands_on r next x end e f = ap (λ z. then_checked z next) e ∙ f
 
 pub some_of : {A : Type 0} (o : Option A) (e : Refusal) (x : A) → ok_or o e ≡ Ok x → o ≡ Some x
 some_of None e x h = absurd (cc)

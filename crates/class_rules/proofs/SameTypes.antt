@@ -7,18 +7,18 @@ use Rattle.rpp_tree.specs.declared.tree.VarType.TheVariants as type
 use Rattle.class_rules.specs.Overrides.{is_type_int, same_type}
 use Rattle.class_rules.specs.Table.{Table, class_of}
 use Rattle.class_rules.specs.Scope.{kind_of, class_kind, array_kind}
-use Rattle.class_rules.specs.Statements.{passed, class_known, type_known}
+use Rattle.class_rules.specs.Statements.{verdict_passed, class_known, type_known}
 use Rattle.class_rules.proofs.FirstPlaces.{same_name, bytes_turned}
 use Rattle.class_rules.proofs.PassedRules.{held, required_passes}
 
 pub record TypesSame (table : Table) (a b : VarType) : Type 0 where
   pub kinds : kind_of table b ≡ kind_of table a
   pub turned : same_type b a ≡ true
-  pub known : type_known table a ≡ passed → type_known table b ≡ passed
+  pub known : type_known table a ≡ verdict_passed → type_known table b ≡ verdict_passed
   pub ints : is_type_int b ≡ is_type_int a
 
-class_known_as : (table : Table) (a b : Ident) → a.text ≡ b.text → class_known table a ≡ passed
-    → class_known table b ≡ passed
+class_known_as : (table : Table) (a b : Ident) → a.text ≡ b.text → class_known table a ≡ verdict_passed
+    → class_known table b ≡ verdict_passed
 class_known_as table a b e h = required_passes _ _ (ap (λ n. is_some (class_of table n)) (sym e) ∙ held _ _ h)
 
 pub types_same : (table : Table) (a b : VarType) → same_type a b ≡ true → TypesSame table a b

@@ -7,7 +7,7 @@ use Rattle.rpp_tree.specs.Tree.{ClassText, Source}
 use Rattle.class_rules.specs.Refusal.{Refusal, refused}
 use Rattle.class_rules.specs.First.{refused_if, first_at, each_below}
 use Rattle.std.specs.Option.{unwrap_or}
-use Rattle.class_rules.specs.Rules.{class_names}
+use Rattle.class_rules.specs.Rules.{all_class_names}
 
 -- the number of the class of this name
 abbrev pub class_named : List (List ℕ) → List ℕ → Option ℕ
@@ -19,7 +19,7 @@ parent_named names (Some name) = class_named names name.text
 
 -- the parent of each class
 abbrev pub parents : Source → List (Option ℕ)
-parents program = map (λ class. parent_named (class_names program) class.parent) program.classes
+parents program = map (λ class. parent_named (all_class_names program) class.parent) program.classes
 
 abbrev pub with_last : ℕ → Option (List ℕ) → Option (List ℕ)
 with_last class None = None
@@ -45,8 +45,8 @@ abbrev pub inheritance_cycle : Source → Option Refusal
 inheritance_cycle program = first_at (endless_chain program) 0 program.classes
 
 -- the ancestors of a class and the class last, if there is no cycle
-abbrev pub line_of : Source → ℕ → List ℕ
-line_of program class = unwrap_or (chain_of program class) []
+abbrev pub class_line : Source → ℕ → List ℕ
+class_line program class = unwrap_or (chain_of program class) []
 
 abbrev pub lines : Source → List (List ℕ)
-lines program = each_below (line_of program) (length program.classes)
+lines program = each_below (class_line program) (length program.classes)

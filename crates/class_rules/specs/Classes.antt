@@ -7,8 +7,8 @@ use Rattle.std.specs.Str.{bytes_eq}
 use Rattle.rpp_tree.specs.declared.tree.Var.{Var}
 use Rattle.rpp_tree.specs.Tree.{Procedure, Source}
 use Rattle.class_rules.specs.declared.method.MethodId.{MethodId}
-use Rattle.class_rules.specs.Rules.{class_names}
-use Rattle.class_rules.specs.Chains.{class_named, line_of}
+use Rattle.class_rules.specs.Rules.{all_class_names}
+use Rattle.class_rules.specs.Chains.{class_named, class_line}
 use Rattle.class_rules.specs.Members.{field_of}
 pub use Rattle.class_rules.specs.Members.{class_fields, class_slots, procedure_at}
 use Rattle.class_rules.specs.Overrides.{run_at}
@@ -16,7 +16,7 @@ use Rattle.class_rules.specs.Mains.{mains, first_main}
 
 -- the number of the class of this name
 abbrev pub class_number : Source → List ℕ → Option ℕ
-class_number program name = class_named (class_names program) name
+class_number program name = class_named (all_class_names program) name
 
 -- the number of the field of this name
 abbrev pub field_number : Source → ℕ → List ℕ → Option ℕ
@@ -46,4 +46,4 @@ main_of program = first_main (mains program)
 abbrev pub inherits : Source → ℕ → ℕ → Bool
 inherits program class from =
     list_any (λ above. nat_eq above from)
-    (take (length (line_of program class) - 1) (line_of program class))
+    (take (length (class_line program class) - 1) (class_line program class))

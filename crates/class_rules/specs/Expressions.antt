@@ -16,9 +16,9 @@ use Rattle.class_rules.specs.declared.kind.Kind.TheVariants as kind
 use Rattle.class_rules.specs.Scope.{Typing, Locals, kind_in}
 
 -- what a rule returns, passed on if it refuses nothing
-abbrev pub and_then : {A B : Type 0} → Result A Refusal → (A → Result B Refusal) → Result B Refusal
-and_then (Ok value) next = next value
-and_then (Err error) next = Err error
+abbrev pub then_checked : {A B : Type 0} → Result A Refusal → (A → Result B Refusal) → Result B Refusal
+then_checked (Ok value) next = next value
+then_checked (Err error) next = Err error
 
 abbrev pub is_int : Kind → Bool
 is_int kind.Int = true
@@ -71,8 +71,8 @@ abbrev pub index_is_int : Kind → ℕ → Kind → Result Kind Refusal
 index_is_int element at index = if is_int index then Ok element else Err (type_differs at)
 
 -- the name of an element, once it means something
-abbrev pub element_of : Ident → Kind → Result Kind Refusal
-element_of name array = ok_or (element_kind array) (not_an_array name.at)
+abbrev pub element_kind_of : Ident → Kind → Result Kind Refusal
+element_kind_of name array = ok_or (element_kind array) (not_an_array name.at)
 
 abbrev pub variable_type : Typing → Locals → Ident → Result Kind Refusal
 variable_type setting locals name = ok_or (kind_in setting locals name.text) (unknown_name name.at)
@@ -88,13 +88,13 @@ type_of setting locals (Number at word) = Ok kind.Int
 type_of setting locals (Null at) = Ok kind.Nil
 type_of setting locals (Variable name) = variable_type setting locals name
 type_of setting locals (Element name index) =
-    and_then (variable_type setting locals name)
-    (λ array. and_then (ok_or (element_kind array) (not_an_array name.at))
-    (λ element. and_then (type_of setting locals index)
+    then_checked (variable_type setting locals name)
+    (λ array. then_checked (ok_or (element_kind array) (not_an_array name.at))
+    (λ element. then_checked (type_of setting locals index)
     (λ i. if is_int i then Ok element else Err (type_differs (first_token index)))))
 type_of setting locals (Binary at operator left right) =
-    and_then (type_of setting locals left)
-    (λ l. and_then (type_of setting locals right)
+    then_checked (type_of setting locals left)
+    (λ l. then_checked (type_of setting locals right)
     (λ r. operator_type setting.table at operator l r))
 
 abbrev pub place_type : Typing → Locals → Lvalue → Result Kind Refusal

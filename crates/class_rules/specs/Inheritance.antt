@@ -7,7 +7,7 @@ use Rattle.class_rules.specs.declared.kind.Kind.{Kind}
 use Rattle.class_rules.specs.Classes.{class_fields, inherits, method_named}
 use Rattle.class_rules.specs.Overrides.{parameters_of}
 use Rattle.class_rules.specs.Scope.{kind_of}
-use Rattle.class_rules.specs.Statements.{passed}
+use Rattle.class_rules.specs.Statements.{verdict_passed}
 use Rattle.class_rules.specs.Table.{table_of, slot_in, dispatch_in}
 use Rattle.class_rules.specs.Program.{check_method, setting_in, IsAccepted}
 
@@ -44,7 +44,7 @@ pub record IsDispatched (program : Source) (own : ℕ) (method : Procedure)
   pub class : ℕ
   pub inside : class < length program.classes
   pub above : is_or_inherits program own class ≡ true
-  pub checked : check_method (setting_in program (table_of program) class) method ≡ passed
+  pub checked : check_method (setting_in program (table_of program) class) method ≡ verdict_passed
   pub same_types : map (kind_of_var program) method.params ≡ map (kind_of_var program) params
   pub small : IsSmallMethod method
 

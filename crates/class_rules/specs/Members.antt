@@ -11,7 +11,7 @@ use Rattle.class_rules.specs.Refusal.{Refusal, refused}
 use Rattle.rpp_tree.specs.declared.limits.TheConstants.{MOST_FIELDS, MOST_METHODS}
 use Rattle.class_rules.specs.First.{refused_if, first_at, each_below}
 use Rattle.class_rules.specs.Names.{has_name, with_names}
-use Rattle.class_rules.specs.Chains.{line_of}
+use Rattle.class_rules.specs.Chains.{class_line}
 
 abbrev pub no_class : ClassText
 no_class = record { name = record { at = 0; text = [] }; parent = None; fields = []; methods = [] }
@@ -34,11 +34,11 @@ fields_along program (class ∷ below) = (class_at program class).fields ++ fiel
 -- the fields of the ancestors, the farthest first
 abbrev pub inherited : Source → ℕ → List Var
 inherited program class =
-    fields_along program (take (length (line_of program class) - 1) (line_of program class))
+    fields_along program (take (length (class_line program class) - 1) (class_line program class))
 
 -- a class's fields: the parent's first, then its own
 abbrev pub class_fields : Source → ℕ → List Var
-class_fields program class = fields_along program (line_of program class)
+class_fields program class = fields_along program (class_line program class)
 
 abbrev pub fields : Source → List (List Var)
 fields program = each_below (class_fields program) (length program.classes)
@@ -105,7 +105,7 @@ slots_along program slots (class ∷ below) =
 -- a class's method slots: the parent's first; an overriding method keeps its slot, a new one gets
 -- the next
 abbrev pub class_slots : Source → ℕ → Slots
-class_slots program class = slots_along program [] (line_of program class)
+class_slots program class = slots_along program [] (class_line program class)
 
 abbrev pub slots : Source → List Slots
 slots program = each_below (class_slots program) (length program.classes)

@@ -11,7 +11,7 @@ use Rattle.class_rules.specs.declared.method.MethodId.{MethodId}
 use Rattle.class_rules.specs.Refusal.{Refusal, refused}
 use Rattle.class_rules.specs.First.{refused_if, first_in, first_after, first_at}
 use Rattle.class_rules.specs.Names.{has_name}
-use Rattle.class_rules.specs.Chains.{line_of}
+use Rattle.class_rules.specs.Chains.{class_line}
 use Rattle.class_rules.specs.Members.{Slots, slots_along, no_procedure, procedure_at}
 
 abbrev pub method_name : Procedure → List ℕ
@@ -72,7 +72,7 @@ override_differs program slots method =
 -- the slots that a class inherits
 abbrev pub inherited_slots : Source → ℕ → Slots
 inherited_slots program class =
-    slots_along program [] (take (length (line_of program class) - 1) (line_of program class))
+    slots_along program [] (take (length (class_line program class) - 1) (class_line program class))
 
 abbrev pub override_differs_at : Source → ℕ → ClassText → Option Refusal
 override_differs_at program number class =

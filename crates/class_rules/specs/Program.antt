@@ -8,7 +8,7 @@ use Rattle.class_rules.specs.Members.{field_name}
 use Rattle.class_rules.specs.Table.{Table, table_of, HasClassTable}
 use Rattle.class_rules.specs.Refusal.{redeclared}
 use Rattle.class_rules.specs.Scope.{Typing, Locals}
-use Rattle.class_rules.specs.Statements.{Verdict, passed, required, in_turn, each_passes}
+use Rattle.class_rules.specs.Statements.{Verdict, verdict_passed, required, in_turn, each_passes}
 use Rattle.class_rules.specs.Statements.{each_passes_after, with_local, check_statements}
 
 -- 14: an earlier parameter has the name
@@ -34,7 +34,7 @@ check_class program table number class =
     each_passes (check_method (setting_in program table number)) class.methods
 
 abbrev pub check_classes : Source → Table → ℕ → List ClassText → Verdict
-check_classes program table number [] = passed
+check_classes program table number [] = verdict_passed
 check_classes program table number (class ∷ classes) =
     in_turn (check_class program table number class)
     (check_classes program table (number + 1) classes)
@@ -48,4 +48,4 @@ check_program program = check_classes program (table_of program) 0 program.class
 pub record IsAccepted (program : Source) : Type 0 where
   pub limits : IsWithinLimits program
   pub classes : HasClassTable program
-  pub types : check_program program ≡ passed
+  pub types : check_program program ≡ verdict_passed

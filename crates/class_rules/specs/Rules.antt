@@ -13,16 +13,16 @@ use Rattle.class_rules.specs.declared.error.ClassError.TheVariants.{NoMemory}
 use Rattle.class_rules.specs.Refusal.{Refusal, refused, class_refusal}
 use Rattle.class_rules.specs.First.{refused_if, first_in, first_after}
 
-abbrev pub name_of : ClassText → List ℕ
-name_of class = class.name.text
+abbrev pub class_name : ClassText → List ℕ
+class_name class = class.name.text
 
 -- the names of the classes
-abbrev pub class_names : Source → List (List ℕ)
-class_names program = map name_of program.classes
+abbrev pub all_class_names : Source → List (List ℕ)
+all_class_names program = map class_name program.classes
 
 -- 5: an earlier class has the name
 abbrev pub name_taken : List ClassText → ClassText → Option Refusal
-name_taken before class = refused_if (list_any (bytes_eq class.name.text) (map name_of before))
+name_taken before class = refused_if (list_any (bytes_eq class.name.text) (map class_name before))
     (refused 5 class.name.at)
 
 abbrev pub duplicate_class : Source → Option Refusal
@@ -55,7 +55,7 @@ unknown_in_class names class =
     (first_in (unknown_params names) class.methods))
 
 abbrev pub unknown_class : Source → Option Refusal
-unknown_class program = first_in (unknown_in_class (class_names program)) program.classes
+unknown_class program = first_in (unknown_in_class (all_class_names program)) program.classes
 
 -- no memory, or just this refusal
 abbrev pub IsFirst : Option Refusal → ClassError → Type 0

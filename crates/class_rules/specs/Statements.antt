@@ -20,19 +20,19 @@ use Rattle.class_rules.specs.Refusal.{local_in_own_expression, not_class_type}
 use Rattle.class_rules.specs.declared.kind.Kind.{Kind}
 use Rattle.class_rules.specs.declared.kind.Kind.TheVariants as kind
 use Rattle.class_rules.specs.Scope.{Typing, Locals, kind_of, local_kind, kind_in, class_kind}
-use Rattle.class_rules.specs.Expressions.{and_then, is_int, type_of, place_type, occurs}
+use Rattle.class_rules.specs.Expressions.{then_checked, is_int, type_of, place_type, occurs}
 use Rattle.class_rules.specs.Expressions.{occurs_in_index, first_token}
 
 -- passed, or the first refusal
 abbrev pub Verdict : Type 0
 Verdict = Result (Unit {0}) Refusal
 
-abbrev pub passed : Verdict
-passed = Ok tt
+abbrev pub verdict_passed : Verdict
+verdict_passed = Ok tt
 
 -- refused if the condition does not hold
 abbrev pub required : Bool → Refusal → Verdict
-required holds error = if holds then passed else Err error
+required holds error = if holds then verdict_passed else Err error
 
 -- the second rule's answer if the first refuses nothing
 abbrev pub in_turn : Verdict → Verdict → Verdict
@@ -40,12 +40,12 @@ in_turn (Ok value) next = next
 in_turn (Err error) next = Err error
 
 abbrev pub each_passes : {A : Type 0} → (A → Verdict) → List A → Verdict
-each_passes rule [] = passed
+each_passes rule [] = verdict_passed
 each_passes rule (x ∷ xs) = in_turn (rule x) (each_passes rule xs)
 
 -- the same, if the rule sees the elements before each
 abbrev pub each_passes_after : {A : Type 0} → (List A → A → Verdict) → List A → List A → Verdict
-each_passes_after rule before [] = passed
+each_passes_after rule before [] = verdict_passed
 each_passes_after rule before (x ∷ xs) =
     in_turn (rule before x) (each_passes_after rule (before ++ x ∷ []) xs)
 
@@ -53,9 +53,9 @@ abbrev pub is_int_array : Kind → Bool
 is_int_array kind.IntArray = true
 is_int_array _ = false
 
-abbrev pub is_nil : Kind → Bool
-is_nil kind.Nil = true
-is_nil _ = false
+abbrev pub is_nil_kind : Kind → Bool
+is_nil_kind kind.Nil = true
+is_nil_kind _ = false
 
 abbrev pub is_class : ℕ → Kind → Bool
 is_class class (kind.Class other) = nat_eq class other
@@ -67,7 +67,7 @@ is_class_array class _ = false
 
 abbrev pub same_kind : Kind → Kind → Bool
 same_kind kind.Int other = is_int other
-same_kind kind.Nil other = is_nil other
+same_kind kind.Nil other = is_nil_kind other
 same_kind (kind.Class class) other = is_class class other
 same_kind kind.IntArray other = is_int_array other
 same_kind (kind.ClassArray class) other = is_class_array class other
@@ -79,7 +79,7 @@ occurs_in_own_index place = occurs_in_index (place_name place).text place
 -- update: the parts; both int; the variable occurs nowhere else
 abbrev pub update_rules : Typing → Locals → ℕ → Lvalue → Expression → Verdict
 update_rules setting locals at place value =
-    and_then (place_type setting locals place) (λ p. and_then (type_of setting locals value) (λ v.
+    then_checked (place_type setting locals place) (λ p. then_checked (type_of setting locals value) (λ v.
     in_turn (required (is_int p && is_int v) (type_differs at))
     (required (not (occurs_in_own_index place || occurs (place_name place).text value))
     (self_update at))))
@@ -90,7 +90,7 @@ in_either_index name left right = occurs_in_index name left || occurs_in_index n
 
 abbrev pub swap_rules : Typing → Locals → ℕ → Lvalue → Lvalue → Verdict
 swap_rules setting locals at left right =
-    and_then (place_type setting locals left) (λ l. and_then (place_type setting locals right) (λ r.
+    then_checked (place_type setting locals left) (λ l. then_checked (place_type setting locals right) (λ r.
     in_turn (required (same_kind l r) (type_differs at))
     (required (not (in_either_index (place_name left).text left right
     || in_either_index (place_name right).text left right)) (self_update at))))
@@ -98,7 +98,7 @@ swap_rules setting locals at left right =
 -- conditionals and loops: both expressions; each is int
 abbrev pub test_rules : Typing → Locals → Expression → Expression → Verdict
 test_rules setting locals first last =
-    and_then (type_of setting locals first) (λ f. and_then (type_of setting locals last) (λ l.
+    then_checked (type_of setting locals first) (λ f. then_checked (type_of setting locals last) (λ l.
     in_turn (required (is_int f) (type_differs (first_token first)))
     (required (is_int l) (type_differs (first_token last)))))
 
@@ -108,7 +108,7 @@ class_known table name = required (is_some (class_of table name.text)) (unknown_
 abbrev pub type_known : Table → VarType → Verdict
 type_known table (type.Class name) = class_known table name
 type_known table (type.ClassArray name) = class_known table name
-type_known table _ = passed
+type_known table _ = verdict_passed
 
 abbrev pub is_nil_word : Expression → Bool
 is_nil_word (Null at) = true
@@ -124,21 +124,21 @@ local_rules setting locals at var value end_var end_value =
     (type_differs end_var.name.at))
     (in_turn (required (not (occurs var.name.text value || occurs var.name.text end_value))
     (local_in_own_expression at))
-    (and_then (type_of setting locals value) (λ v. and_then (type_of setting locals end_value) (λ e.
+    (then_checked (type_of setting locals value) (λ v. then_checked (type_of setting locals end_value) (λ e.
     required (if is_type_int var.kind then is_int v && is_int e else is_nil_word value
     && is_nil_word end_value) (type_differs at)))))))
 
 abbrev pub made_known : Table → Creation → Verdict
 made_known table (Object class) = class_known table class
-made_known table (Ints length) = passed
+made_known table (Ints length) = verdict_passed
 made_known table (Objects class length) = class_known table class
 
 abbrev pub length_is_int : Typing → Locals → Creation → Result Bool Refusal
 length_is_int setting locals (Object class) = Ok true
-length_is_int setting locals (Ints length) = and_then (type_of setting locals length)
+length_is_int setting locals (Ints length) = then_checked (type_of setting locals length)
     (λ l. Ok (is_int l))
 length_is_int setting locals (Objects class length) =
-    and_then (type_of setting locals length) (λ l. Ok (is_int l))
+    then_checked (type_of setting locals length) (λ l. Ok (is_int l))
 
 abbrev pub occurs_in_length : List ℕ → Creation → Bool
 occurs_in_length name (Object class) = false
@@ -168,7 +168,7 @@ takes table (Objects class length) place = takes_objects_of (class_of table clas
 abbrev pub make_rules : Typing → Locals → ℕ → Creation → Lvalue → Verdict
 make_rules setting locals at made place =
     in_turn (made_known setting.table made)
-    (and_then (place_type setting locals place) (λ p. and_then (length_is_int setting locals made)
+    (then_checked (place_type setting locals place) (λ p. then_checked (length_is_int setting locals made)
     (λ int.
     in_turn (required (int && takes setting.table made p) (type_differs at))
     (required (not (occurs_in_own_index place || occurs_in_length (place_name place).text made))
@@ -204,9 +204,9 @@ same_plain _ _ = false
 abbrev pub copy_rules : Typing → Locals → ℕ → VarType → Lvalue → Lvalue → Verdict
 copy_rules setting locals at written source target =
     in_turn (type_known setting.table written)
-    (and_then (place_type setting locals source)
-    (λ s. and_then (place_type setting locals target)
-    (λ t. and_then (written_kind setting.table at written) (λ kind.
+    (then_checked (place_type setting locals source)
+    (λ s. then_checked (place_type setting locals target)
+    (λ t. then_checked (written_kind setting.table at written) (λ kind.
     in_turn (required (takes_copy setting.table kind s t) (type_differs at))
     (in_turn (required (not (same_plain source target)) (same_argument at))
     (required (not (in_either_index (place_name target).text source target)) (self_update at)))))))
@@ -231,7 +231,7 @@ abbrev pub arguments_fit : Typing → Locals → List Var → List Ident → Ver
 arguments_fit setting locals (parameter ∷ parameters) (argument ∷ arguments) =
     in_turn (argument_fits setting locals parameter argument)
     (arguments_fit setting locals parameters arguments)
-arguments_fit setting locals _ _ = passed
+arguments_fit setting locals _ _ = verdict_passed
 
 abbrev pub receiver_kind : ℕ → Kind → Result ℕ Refusal
 receiver_kind at (kind.Class class) = Ok class
@@ -244,8 +244,8 @@ place_class at place class = if occurs_in_own_index place then Err (self_update 
 abbrev pub receiver_class : Typing → Locals → Option Lvalue → Result ℕ Refusal
 receiver_class setting locals None = Ok setting.class
 receiver_class setting locals (Some place) =
-    and_then (place_type setting locals place)
-    (λ k. and_then (receiver_kind (place_name place).at k)
+    then_checked (place_type setting locals place)
+    (λ k. then_checked (receiver_kind (place_name place).at k)
     (place_class (place_name place).at place))
 
 -- a plain receiver counts among the arguments
@@ -267,7 +267,7 @@ slot_rules setting locals at receiver method arguments class (Some slot) =
 -- call and uncall: the receiver, and then the rules of its class's method
 abbrev pub call_rules : Typing → Locals → ℕ → Option Lvalue → Ident → List Ident → Verdict
 call_rules setting locals at receiver method arguments =
-    and_then (receiver_class setting locals receiver) (λ class.
+    then_checked (receiver_class setting locals receiver) (λ class.
     slot_rules setting locals at receiver method arguments class
     (slot_in setting.table class method.text))
 
@@ -305,9 +305,9 @@ abbrev mutual
       copy_rules setting locals at written source target
   check_statement setting locals (Uncopy at written source target) =
       copy_rules setting locals at written source target
-  check_statement setting locals (Skip at) = passed
+  check_statement setting locals (Skip at) = verdict_passed
 
   pub check_statements : Typing → Locals → Statements → Verdict
-  check_statements setting locals End = passed
+  check_statements setting locals End = verdict_passed
   check_statements setting locals (Then first rest) =
       in_turn (check_statement setting locals first) (check_statements setting locals rest)

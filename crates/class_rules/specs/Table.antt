@@ -9,8 +9,8 @@ use Rattle.rpp_tree.specs.Tree.{Source}
 use Rattle.class_rules.specs.declared.method.MethodId.{MethodId}
 use Rattle.class_rules.specs.Refusal.{Refusal}
 use Rattle.class_rules.specs.First.{first_in, first_after, first_at, each_below}
-use Rattle.class_rules.specs.Rules.{class_names, name_taken, unknown_in_class}
-use Rattle.class_rules.specs.Chains.{line_of, endless_chain}
+use Rattle.class_rules.specs.Rules.{all_class_names, name_taken, unknown_in_class}
+use Rattle.class_rules.specs.Chains.{class_line, endless_chain}
 use Rattle.class_rules.specs.Overrides.{duplicate_method_in, override_differs_at, run_at}
 use Rattle.class_rules.specs.Members.{Slots, field_name, class_fields, class_slots}
 use Rattle.class_rules.specs.Members.{duplicate_field_at, too_many_fields_at, too_many_slots_at}
@@ -25,8 +25,8 @@ pub record Table : Type 0 where
 
 abbrev pub table_of : Source → Table
 table_of program = record {
-  names = class_names program;
-  lines = each_below (line_of program) (length program.classes);
+  names = all_class_names program;
+  lines = each_below (class_line program) (length program.classes);
   fields = each_below (class_fields program) (length program.classes);
   slots = each_below (class_slots program) (length program.classes);
   main = first_main (mains program);
@@ -36,7 +36,7 @@ table_of program = record {
 abbrev pub first_class_refusal : Source → ℕ → Option Refusal
 first_class_refusal program end =
     option_or (first_after name_taken [] program.classes)
-    (option_or (first_in (unknown_in_class (class_names program)) program.classes)
+    (option_or (first_in (unknown_in_class (all_class_names program)) program.classes)
     (option_or (first_at (endless_chain program) 0 program.classes)
     (option_or (first_at (duplicate_field_at program) 0 program.classes)
     (option_or (first_in duplicate_method_in program.classes)

@@ -2,7 +2,7 @@
 ghost use Rattle.std.specs.Prelude.{◌≡◌, MatchResult, None, [], slice_get, map, length, ◌≤◌, IfSome, ◌<◌};
 ghost use Rattle.std.specs.Option.{option_map, unwrap_or};
 ghost use Rattle.rpp_tree.specs.Views.{source_of, class_text_of};
-ghost use Rattle.class_rules.specs.Rules.{IsFirst, class_names};
+ghost use Rattle.class_rules.specs.Rules.{IsFirst, all_class_names};
 ghost use Rattle.class_rules.specs.Chains.{class_named, parent_named, parents as parents_of, chain as chain_within, inheritance_cycle, lines as lines_of};
 
 use class_rules::ClassError;
@@ -41,7 +41,7 @@ pub fn parents(
     program: &Program,
 ) -> Result<Vec<Option<u32>>, ClassError>
     requires few { length program.now.classes.items ≤ MOST_CLASSES }
-    requires named { names.now.keys ≡ class_names (source_of program.now) }
+    requires named { names.now.keys ≡ all_class_names (source_of program.now) }
     ensures { MatchResult result (λ list. list.items ≡ parents_of (source_of program.now))
         (λ error. error ≡ ClassError.NoMemory) }
 {

@@ -2,7 +2,7 @@
 ghost use Rattle.std.specs.Prelude.{◌≡◌, MatchResult, None, map};
 ghost use Rattle.std.specs.Option.{option_map};
 ghost use Rattle.rpp_tree.specs.Views.{source_of, class_text_of, procedure_of};
-ghost use Rattle.class_rules.specs.Rules.{IsFirst, class_names, duplicate_class, unknown_class, unknown_in_class, unknown_params, unknown_var, unknown_type, unknown_name, unknown_parent};
+ghost use Rattle.class_rules.specs.Rules.{IsFirst, all_class_names, duplicate_class, unknown_class, unknown_in_class, unknown_params, unknown_var, unknown_type, unknown_name, unknown_parent};
 ghost use Rattle.class_rules.specs.Refusal.{refused};
 ghost use Rattle.class_rules.specs.First.{first_in};
 
@@ -15,7 +15,7 @@ use std::alloc::Global;
 
 /// The names of the classes, each of which has only one.
 pub fn name_classes(alloc: Global, program: &Program) -> Result<IndexSet<Text>, ClassError>
-    ensures { MatchResult result (λ names. (names.keys ≡ class_names (source_of program.now))
+    ensures { MatchResult result (λ names. (names.keys ≡ all_class_names (source_of program.now))
         × (duplicate_class (source_of program.now) ≡ None))
         (IsFirst (duplicate_class (source_of program.now))) }
 {
@@ -102,7 +102,7 @@ fn know_class(names: &IndexSet<Text>, class: &Class) -> Option<u32>
 
 /// The place of the first name that is used as a class and is none.
 pub fn know_classes(names: &IndexSet<Text>, program: &Program) -> Option<u32>
-    requires { names.now.keys ≡ class_names (source_of program.now) }
+    requires { names.now.keys ≡ all_class_names (source_of program.now) }
     ensures { option_map (refused 6) result ≡ unknown_class (source_of program.now) }
 {
     for class in &program.classes {

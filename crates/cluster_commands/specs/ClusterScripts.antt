@@ -33,9 +33,9 @@ rewind_event [] = Some Rewind
 rewind_event _ = None
 
 -- what a line requests of so many processors
-abbrev pub event_of : (processors : ℕ) → List (List ℕ) → Option Event
-event_of processors [] = None
-event_of processors (name ∷ args) =
+abbrev pub script_event : (processors : ℕ) → List (List ℕ) → Option Event
+script_event processors [] = None
+script_event processors (name ∷ args) =
     if bytes_eq name (codes "step") then step_event processors args
     else if bytes_eq name (codes "undo") then undo_event processors args
     else if bytes_eq name (codes "rewind") then rewind_event args
@@ -52,28 +52,28 @@ abbrev pub with_event : (line : ℕ) → List Event → Option Event → Result 
 with_event line events None = Err (BadEvent line)
 with_event line events (Some event) = Ok (events ++ event ∷ [])
 
-abbrev pub with_line : (processors line : ℕ) → List Event → List ℕ → Result (List Event) ScriptError
-with_line processors line events text =
+abbrev pub with_event_line : (processors line : ℕ) → List Event → List ℕ → Result (List Event) ScriptError
+with_event_line processors line events text =
     if is_blank text then Ok events else with_event line events
-    (event_of processors (pieces 32 text))
+    (script_event processors (pieces 32 text))
 
 -- line by line, the first of which has this number
 unfoldable pub events_from : (processors line : ℕ) → List Event → List (List ℕ)
     → Result (List Event) ScriptError
 events_from processors line events [] = Ok events
 events_from processors line events (text ∷ texts) =
-    with_line processors line events text >>= λ more. events_from processors (line + 1) more texts
+    with_event_line processors line events text >>= λ more. events_from processors (line + 1) more texts
 
 -- what a text asks of so many processors, or its first line that asks nothing
 abbrev pub events_of : (processors : ℕ) → (text : List ℕ) → Result (List Event) ScriptError
 events_of processors text = events_from processors 1 [] (pieces 10 (without_returns text))
 
 -- what a function returned is this reading, unless memory ran out
-abbrev pub Fails : ScriptError → Result (List Event) ScriptError → Type 0
-Fails NoMemory read = Unit {0}
-Fails refusal read = read ≡ Err refusal
+abbrev pub EventsFail : ScriptError → Result (List Event) ScriptError → Type 0
+EventsFail NoMemory read = Unit {0}
+EventsFail refusal read = read ≡ Err refusal
 
-abbrev pub Gives : {X : Type 0} → (X → List Event) → Result X ScriptError
+abbrev pub EventsGive : {X : Type 0} → (X → List Event) → Result X ScriptError
     → Result (List Event) ScriptError → Type 0
-Gives view (Ok x) read = read ≡ Ok (view x)
-Gives view (Err e) read = Fails e read
+EventsGive view (Ok x) read = read ≡ Ok (view x)
+EventsGive view (Err e) read = EventsFail e read

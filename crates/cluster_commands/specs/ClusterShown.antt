@@ -13,7 +13,7 @@ use Rattle.pisa_cluster.specs.declared.cluster.Moved.{Moved}
 use Rattle.pisa_cluster.specs.declared.cluster.Moved.TheVariants.{Made, Stopped}
 use Rattle.pisa_cluster.specs.declared.cluster.Undone.{Undone}
 use Rattle.pisa_cluster.specs.declared.cluster.Undone.TheVariants.{Done, Nothing, Blocked}
-use Rattle.pisa_cluster.specs.Schedules.{Schedule, first_schedule, Moves, Undoes, rewound}
+use Rattle.pisa_cluster.specs.Schedules.{Schedule, first_schedule, ProcessorMoves, Undoes, rewound}
 use Rattle.cluster_commands.specs.declared.script.Event.{Event}
 use Rattle.cluster_commands.specs.declared.script.Event.TheVariants.{Step, Undo, Rewind}
 
@@ -28,7 +28,7 @@ AfterStep More (Made serial) made stop d e = (more : ℕ) × (made ≡ suc more)
 abbrev pub MakesSteps : (who wanted : ℕ) → (made : ℕ) → Option Stop → (c e : Schedule) → Type 0
 MakesSteps who zero made stop c e = (made ≡ 0) × (stop ≡ None) × (e ≡ c)
 MakesSteps who (suc wanted) made stop c e =
-    (answer : Moved) × (d : Schedule) × Moves who answer c d
+    (answer : Moved) × (d : Schedule) × ProcessorMoves who answer c d
     × AfterStep (MakesSteps who wanted) answer made stop d e
 
 abbrev pub stop_shown : Option Stop → List ℕ
@@ -73,8 +73,8 @@ ShowsAll (event ∷ events) c text e =
     (line : List ℕ) × (rest : List ℕ) × (d : Schedule) × Shows event c line d
     × ShowsAll events d rest e × (text ≡ line ++ rest)
 
-abbrev pub kept_line : ℕ → List ℕ
-kept_line count = codes "kept " ++ (decimal count ++ line_end)
+abbrev pub kept_step_line : ℕ → List ℕ
+kept_step_line count = codes "kept " ++ (decimal count ++ line_end)
 
 abbrev pub processor_line : (number : ℕ) → Core → List ℕ
 processor_line number core =
@@ -98,8 +98,8 @@ filled_lines number [] = []
 filled_lines number (word ∷ words) = filled_line number word ++ filled_lines (suc number) words
 
 -- the state of a cluster
-abbrev pub end_shown : Schedule → List ℕ
-end_shown c = (kept_line (length c.kept) ++ processor_lines 1 c.joint.processors)
+abbrev pub schedule_end_shown : Schedule → List ℕ
+schedule_end_shown c = (kept_step_line (length c.kept) ++ processor_lines 1 c.joint.processors)
     ++ filled_lines 0 c.joint.cells
 
 -- what events print from the start on, and then the state of the cluster
@@ -108,4 +108,4 @@ pub record IsShown (images : List Segments) (cells : ℕ) (events : List Event)
   pub lines : List ℕ
   pub end : Schedule
   pub shows : ShowsAll events (first_schedule images cells) lines end
-  pub whole : text ≡ lines ++ end_shown end
+  pub whole : text ≡ lines ++ schedule_end_shown end

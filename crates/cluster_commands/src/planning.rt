@@ -1,6 +1,6 @@
 // `cluster SCRIPT CELLS IMG {IMG}`: several processors on one memory, by a script.
 ghost use Rattle.std.specs.Prelude.{◌≡◌, ◌≤◌, ◌<◌, ◌+◌, ◌++◌, List, ℕ, map, length, vec_len, Ok, IfOk, string_bytes, All};
-ghost use Rattle.command_plan.specs.pisa_image.Reading.{Gives};
+ghost use Rattle.command_plan.specs.pisa_image.Reading.{ImageGives};
 ghost use Rattle.command_plan.specs.Files.{OnlyReads, image_file};
 ghost use Rattle.command_plan.specs.Plans.{planned, GivesPlan};
 ghost use Rattle.cluster_commands.specs.ClusterScripts.{IsEvent, events_of};
@@ -92,7 +92,7 @@ fn cluster_over(
 
 // The images that texts are, or the first refusal.
 fn judge_images(alloc: Global, texts: &[Vec<u8>]) -> Result<Vec<Image>, ImageError>
-    ensures images { Gives (λ images. images.items) result (images_at (map (λ v. v.items) texts.now)) }
+    ensures images { ImageGives (λ images. images.items) result (images_at (map (λ v. v.items) texts.now)) }
     ensures count { IfOk result (λ images. vec_len images ≡ length texts.now) }
 {
     let mut images = Vec::new(alloc);

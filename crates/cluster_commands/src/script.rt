@@ -1,7 +1,7 @@
 // Reads scripts for several processors.
 ghost use Rattle.std.specs.Prelude.{◌≡◌, ◌≤◌, ◌+◌, ℕ, All, [], map, length, IfOk, OnOk, IfSome};
 ghost use Rattle.command_plan.specs.pisa_scripts.Lines.{pieces as pieces_of, number_up_to as number_of};
-ghost use Rattle.cluster_commands.specs.ClusterScripts.{IsEvent, from_one, event_of as event_of_words, step_event, undo_event, rewind_event, with_line, events_from, events_of, Gives};
+ghost use Rattle.cluster_commands.specs.ClusterScripts.{IsEvent, from_one, script_event as event_of_words, step_event, undo_event, rewind_event, with_event_line, events_from, events_of, EventsGive};
 
 use crate::error::ScriptError;
 use pisa_scripts::{MOST_SCRIPT, is_blank, number_up_to, pieces, without_returns};
@@ -30,7 +30,7 @@ pub(crate) fn read_events(
     bytes: &[u8],
 ) -> Result<Vec<Event>, ScriptError>
     requires { length bytes.now ≤ MOST_SCRIPT }
-    ensures events { Gives (λ events. events.items) result (events_of processors bytes.now) }
+    ensures events { EventsGive (λ events. events.items) result (events_of processors bytes.now) }
     ensures there { IfOk result (λ events. All (IsEvent processors) events.items) }
     ensures few { IfOk result (λ events. length events.items ≤ MOST_SCRIPT + 1) }
 {
@@ -41,7 +41,7 @@ pub(crate) fn read_events(
 // The events of the lines, which line feeds part.
 fn read_lines(alloc: Global, processors: u32, text: &[u8]) -> Result<Vec<Event>, ScriptError>
     requires { length text.now ≤ MOST_SCRIPT }
-    ensures events { Gives (λ events. events.items) result
+    ensures events { EventsGive (λ events. events.items) result
         (events_from processors 1 [] (pieces_of 10 text.now)) }
     ensures there { IfOk result (λ events. All (IsEvent processors) events.items) }
     ensures few { IfOk result (λ events. length events.items ≤ length text.now + 1) }
@@ -65,8 +65,8 @@ fn add_line(
     line: &[u8],
 ) -> Result<(), ScriptError>
     requires { All (IsEvent processors) events.old.items }
-    ensures events { Gives (λ _. events.new.items) result
-        (with_line processors number events.old.items line.now) }
+    ensures events { EventsGive (λ _. events.new.items) result
+        (with_event_line processors number events.old.items line.now) }
     ensures there { OnOk result (All (IsEvent processors) events.new.items) }
     ensures one { OnOk result (length events.new.items ≤ length events.old.items + 1) }
 {

@@ -1,6 +1,6 @@
 // The state of a cluster.
 ghost use Rattle.std.specs.Prelude.{◌≡◌, ◌<◌, ◌≤◌, ◌+◌, ◌^◌, ◌++◌, length, OnOk, string_bytes};
-ghost use Rattle.cluster_commands.specs.ClusterShown.{kept_line, processor_line, processor_lines, filled_line, filled_lines, end_shown};
+ghost use Rattle.cluster_commands.specs.ClusterShown.{kept_step_line, processor_line, processor_lines, filled_line, filled_lines, schedule_end_shown};
 
 use pisa_cluster::Cluster;
 use pisa_isa::Core;
@@ -9,7 +9,7 @@ use std::alloc::AllocError;
 
 // Adds the line on how many steps are kept.
 fn add_kept(text: &mut String, count: usize) -> Result<(), AllocError>
-    ensures { OnOk result (string_bytes text.new ≡ string_bytes text.old ++ kept_line count) }
+    ensures { OnOk result (string_bytes text.new ≡ string_bytes text.old ++ kept_step_line count) }
 {
     write!(text, "kept {count}\n")
 }
@@ -73,7 +73,7 @@ pub(crate) fn add_end(
     requires processors { processors ≡ length cluster.now.joint.processors }
     requires few { processors < 2 ^ 31 }
     requires cells { cells ≡ length cluster.now.joint.cells }
-    ensures { OnOk result (string_bytes text.new ≡ string_bytes text.old ++ end_shown cluster.now) }
+    ensures { OnOk result (string_bytes text.new ≡ string_bytes text.old ++ schedule_end_shown cluster.now) }
 {
     add_kept(text, cluster.kept().len())?;
     add_processors(text, cluster, processors)?;

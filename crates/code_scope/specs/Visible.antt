@@ -62,8 +62,8 @@ abbrev pub spot_of : Known → List ℕ → Spot
 spot_of known name = unwrap_or (spot_named known name) (Field 0)
 
 -- the first word of the frame after the variables
-abbrev pub free_of : Known → ℕ
-free_of known = FIRST_VARIABLE + length known.variables
+abbrev pub free_words_of : Known → ℕ
+free_words_of known = FIRST_VARIABLE + length known.variables
 
 -- what names denote
 abbrev pub known_by : Names → Known

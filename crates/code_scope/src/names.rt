@@ -3,7 +3,7 @@ ghost use Rattle.std.specs.Prelude.{◌≡◌, ◌<◌, ◌≤◌, ◌^◌, leng
 ghost use Rattle.std.specs.Option.{option_map};
 ghost use Rattle.refine_form.specs.class_rules.Members.{field_of};
 ghost use Rattle.refine_form.specs.code_conventions.declared.memory.TheConstants.{MOST_VARIABLES};
-ghost use Rattle.code_scope.specs.Visible.{offset_of, word_named, place_named, type_named, field_type, kind_named, spot_named, spot_of as spot_of_name, free_of, known_by};
+ghost use Rattle.code_scope.specs.Visible.{offset_of, word_named, place_named, type_named, field_type, kind_named, spot_named, spot_of as spot_of_name, free_words_of, known_by};
 
 use crate::known::Names;
 use code_conventions::memory::FIRST_VARIABLE;
@@ -129,7 +129,7 @@ pub fn spot_of(names: &Names, name: &Text) -> Spot
 
 /// The first word of the frame after the variables.
 pub fn free_word(names: &Names) -> u32
-    ensures value { result ≡ free_of (known_by names.now) }
+    ensures value { result ≡ free_words_of (known_by names.now) }
     ensures small { result ≤ 64 }
 {
     FIRST_VARIABLE + names.variables.len() as u32

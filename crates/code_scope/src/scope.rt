@@ -5,7 +5,7 @@ ghost use Rattle.refine_form.specs.rpp_tree.Views.{source_of, procedure_of};
 ghost use Rattle.refine_form.specs.class_rules.Members.{no_procedure};
 ghost use Rattle.refine_form.specs.class_rules.Classes.{procedure_at};
 ghost use Rattle.refine_form.specs.code_conventions.declared.memory.TheConstants.{MOST_VARIABLES};
-ghost use Rattle.code_scope.specs.Visible.{offset_of, kind_named, spot_named, free_of, known_by, known_in, outer_of};
+ghost use Rattle.code_scope.specs.Visible.{offset_of, kind_named, spot_named, free_words_of, known_by, known_in, outer_of};
 
 use crate::known::Names;
 use crate::names::{free_word, kind_by, spot_by};
@@ -137,7 +137,7 @@ impl<'a> Scope<'a> {
 
     /// The word of the frame that the next local gets; the words from it on are free.
     pub fn free(&self) -> u32
-        ensures value { result ≡ free_of (known_in self.now) }
+        ensures value { result ≡ free_words_of (known_in self.now) }
         ensures small { result ≤ 64 }
     {
         let names = self.names();

@@ -15,7 +15,7 @@ use Rattle.command_line.specs.declared.line.TheConstants.{MOST_ITEMS, MOST_COMMO
 use Rattle.command_line.specs.declared.line.TheConstants.{MOST_PROCESSORS}
 use Rattle.command_plan.specs.declared.plan.Room.{Room}
 use Rattle.command_plan.specs.declared.plan.Sizes.{Sizes}
-use Rattle.command_plan.specs.Files.{state_named, state_of_names, save_of_names}
+use Rattle.command_plan.specs.Files.{state_argument, state_of_names, save_of_names}
 use Rattle.command_plan.specs.pisa_scripts.Lines.{short_number}
 use Rattle.command_line.specs.declared.line.Line.TheVariants as line
 
@@ -77,8 +77,8 @@ asked (line.Explain file heap deep fuel input) =
     Explain (string_bytes file) (sizes_at heap deep fuel) (option_map string_bytes input)
 
 -- the number that the digits of a word write
-unfoldable pub number_of : List ℕ → Option ℕ
-number_of word = short_number word
+unfoldable pub number_of_word : List ℕ → Option ℕ
+number_of_word word = short_number word
 
 -- a number from 1 to so many
 abbrev pub up_to : (most : ℕ) → Option ℕ → Option ℕ
@@ -89,13 +89,13 @@ up_to most (Some n) = if nat_lt 0 n && nat_le n most then Some n else None
 abbrev pub room_of : (heap deep : List ℕ) → Option Room
 room_of heap deep =
     option_and_then (λ heap. option_map (λ deep. record { heap = heap; deep = deep })
-    (number_of deep)) (number_of heap)
+    (number_of_word deep)) (number_of_word heap)
 
 -- the sizes of a run that three words are: those of its memory, and the number of steps
 abbrev pub sizes_of : (heap deep steps : List ℕ) → Option Sizes
 sizes_of heap deep steps =
     option_and_then (λ room. option_map (λ steps. record { room = room; bound = steps })
-    (number_of steps)) (room_of heap deep)
+    (number_of_word steps)) (room_of heap deep)
 
 -- a file, the sizes of a run, and the file of an input, if there is one
 abbrev pub program_line_of : (List ℕ → Sizes → Option (List ℕ) → Asked)
@@ -137,15 +137,15 @@ line_by named.Flip args = files_line_of Flip args
 line_by named.ShowInverse args = files_line_of ShowInverse args
 line_by named.Generate (seed ∷ size ∷ out ∷ []) =
     option_and_then (λ seed. option_map (λ size. Generate seed size out)
-    (up_to MOST_ITEMS (number_of size))) (number_of seed)
+    (up_to MOST_ITEMS (number_of_word size))) (number_of_word seed)
 line_by named.Cluster (script ∷ cells ∷ images) =
     option_and_then (λ cells. if nat_lt 0 (length images)
     && nat_le (length images) MOST_PROCESSORS then Some (Cluster script cells images) else None)
-    (up_to MOST_COMMON (number_of cells))
+    (up_to MOST_COMMON (number_of_word cells))
 line_by named.RunImage (image ∷ heap ∷ deep ∷ steps ∷ []) =
     option_map (λ sizes. RunImage image sizes None None) (sizes_of heap deep steps)
 line_by named.RunImage (image ∷ heap ∷ deep ∷ steps ∷ state ∷ save ∷ []) =
-    option_map (λ sizes. RunImage image sizes (state_named state) (Some save))
+    option_map (λ sizes. RunImage image sizes (state_argument state) (Some save))
     (sizes_of heap deep steps)
 line_by named.Debug (image ∷ heap ∷ deep ∷ script ∷ []) =
     option_map (λ room. Debug image room script) (room_of heap deep)

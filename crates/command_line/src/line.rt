@@ -3,7 +3,7 @@ ghost use Rattle.std.specs.Prelude.{◌≡◌, ◌<◌, ◌≤◌, ◌^◌, map,
 ghost use Rattle.std.specs.Option.{option_and_then};
 ghost use Rattle.command_line.specs.CommandNames.{source_command_named};
 ghost use Rattle.command_line.specs.CommandNames as named;
-ghost use Rattle.command_line.specs.Lines.{Trace, RunImage, Wrap, asked, line_of, line_by, files_line_of, line_of_files, program_line_of, line_of_program, room_of, sizes_of, up_to, number_of, HasShortRoom, HasShortSizes, HasShortNumbers};
+ghost use Rattle.command_line.specs.Lines.{Trace, RunImage, Wrap, asked, line_of, line_by, files_line_of, line_of_files, program_line_of, line_of_program, room_of, sizes_of, up_to, number_of_word, HasShortRoom, HasShortSizes, HasShortNumbers};
 ghost use Rattle.command_line.specs.declared.line.TheConstants.{MOST_ITEMS, MOST_COMMON};
 ghost use Rattle.command_plan.specs.Files.{state_of_names, save_of_names};
 
@@ -542,7 +542,7 @@ pub const MOST_COMMON: u32 = 65_536;
 
 // The number from 1 to `most` that a word is.
 fn read_up_to(word: &str, most: u32) -> Option<u32>
-    ensures value { result ≡ up_to most (number_of word.now) }
+    ensures value { result ≡ up_to most (number_of_word word.now) }
     ensures within { IfSome result (λ number. (1 ≤ number) × (number ≤ most)) }
 {
     let number = read_number(word)?;
@@ -575,9 +575,9 @@ fn read_room(heap: &String, deep: &String) -> Option<Room>
 }
 
 // The number that the digits of a word write.
-#[tactic(auto, unfolding(crate::specs::Lines::number_of))]
+#[tactic(auto, unfolding(crate::specs::Lines::number_of_word))]
 fn read_number(word: &str) -> Option<u64>
-    ensures value { result ≡ number_of word.now }
+    ensures value { result ≡ number_of_word word.now }
     ensures short { IfSome result (λ number. number < 10 ^ 18) }
 {
     short_number(word.as_bytes())

@@ -20,8 +20,8 @@ pub record Needed : Type 0 where
   pub name : List ℕ
   pub limit : ℕ
 
-abbrev pub source : List ℕ → Needed
-source name = record { name = name; limit = MOST_BYTES }
+abbrev pub source_file : List ℕ → Needed
+source_file name = record { name = name; limit = MOST_BYTES }
 
 abbrev pub assembly : List ℕ → Needed
 assembly name = record { name = name; limit = MOST_TEXT }
@@ -102,13 +102,13 @@ pub record OnlyReads {T : Type 0} (old new : Option Texts) (before now : ℕ) (f
   pub whole : OnOk result (IfSome old (λ texts. ¬ LacksOne texts files))
 
 -- the word `-` names no state
-abbrev pub state_named : List ℕ → Option (List ℕ)
-state_named word = if bytes_eq word (codes "-") then None else Some word
+abbrev pub state_argument : List ℕ → Option (List ℕ)
+state_argument word = if bytes_eq word (codes "-") then None else Some word
 
 -- the file of the state to begin with, and that of the state to save, if there are such
 abbrev pub state_of_names : Option StateNames → Option (List ℕ)
 state_of_names None = None
-state_of_names (Some names) = state_named (string_bytes names.state)
+state_of_names (Some names) = state_argument (string_bytes names.state)
 
 abbrev pub save_of_names : Option StateNames → Option (List ℕ)
 save_of_names None = None

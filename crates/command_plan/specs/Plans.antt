@@ -22,14 +22,14 @@ pub record Planned : Type 0 where
   pub text : List ℕ
   pub writing : Option Written
 
-abbrev pub written : Writing → Written
-written w = record { name = string_bytes w.name; bytes = w.bytes.items }
+abbrev pub written_file : Writing → Written
+written_file w = record { name = string_bytes w.name; bytes = w.bytes.items }
 
 abbrev pub planned : Plan → Planned
 planned p = record {
   verdict = p.verdict;
   text = string_bytes p.text;
-  writing = option_map written p.writing;
+  writing = option_map written_file p.writing;
 }
 
 -- a plan that prints a text and writes nothing

@@ -12,8 +12,8 @@ use Rattle.command_plan.specs.declared.plan.NoPlan.{NoPlan}
 use Rattle.command_plan.specs.declared.plan.NoPlan.TheVariants.{NoMemory, Unread}
 
 -- the event of a read of the file
-abbrev pub read : Needed → Result (List ℕ) ShelfFault → Event
-read file answer = Read file.name file.limit answer
+abbrev pub read_event : Needed → Result (List ℕ) ShelfFault → Event
+read_event file answer = Read file.name file.limit answer
 
 -- a text that is not too long for the file, and if the texts are known, that of the file
 abbrev pub IsGiven : Option Texts → Needed → (text : List ℕ) → Type 0
@@ -26,7 +26,7 @@ Gave told [] [] old new = new ≡ old
 Gave told [] (text ∷ texts) old new = ⊥
 Gave told (file ∷ files) [] old new = ⊥
 Gave told (file ∷ files) (text ∷ texts) old new =
-    IsGiven told file text × Gave told files texts (read file (Ok text) ∷ old) new
+    IsGiven told file text × Gave told files texts (read_event file (Ok text) ∷ old) new
 
 -- the last event is a read of the file that failed, and this line says so
 pub record FailsAt (told : Option Texts) (file : Needed) (rose : Type 0) (line : List ℕ)
@@ -34,7 +34,7 @@ pub record FailsAt (told : Option Texts) (file : Needed) (rose : Type 0) (line :
   pub why : ShelfFault
   pub not_memory : why ≢ fault.NoMemory
   pub cause : ReadCause told file.name file.limit rose why
-  pub tried : new ≡ read file (Err why) ∷ old
+  pub tried : new ≡ read_event file (Err why) ∷ old
   pub line_is : line ≡ unread file.name why
 
 -- the files before it gave their texts, each once and in order, and then one could not be read
@@ -43,14 +43,14 @@ abbrev pub StopsAt : Option Texts → List Needed → (rose : Type 0) → (line 
 StopsAt told [] rose line old new = ⊥
 StopsAt told (file ∷ files) rose line old new = FailsAt told file rose line old new
     ⊎ ((text : List ℕ) × IsGiven told file text
-    × StopsAt told files rose line (read file (Ok text) ∷ old) new)
+    × StopsAt told files rose line (read_event file (Ok text) ∷ old) new)
 
 -- some first files gave their texts, each once and in order, and perhaps one more read failed
 abbrev pub ReadsSome : List Needed → (old new : List Event) → Type 0
 ReadsSome [] old new = new ≡ old
 ReadsSome (file ∷ files) old new = (new ≡ old)
-    ⊎ (((why : ShelfFault) × (new ≡ read file (Err why) ∷ old))
-    ⊎ ((text : List ℕ) × ReadsSome files (read file (Ok text) ∷ old) new))
+    ⊎ (((why : ShelfFault) × (new ≡ read_event file (Err why) ∷ old))
+    ⊎ ((text : List ℕ) × ReadsSome files (read_event file (Ok text) ∷ old) new))
 
 -- why there is no plan, and what was read until then
 abbrev pub Stops : Option Texts → List Needed → (rose : Type 0) → (old new : List Event) → NoPlan

@@ -1,6 +1,6 @@
 // Files that commands read.
 ghost use Rattle.std.specs.Prelude.{◌≡◌, ◌<◌, option_map, IfOk, string_bytes, ◌≤◌, [], ◌∷◌, length, Ok, None, Some};
-ghost use Rattle.command_plan.specs.Files.{state_of_names, OnlyReads, image_file, source, input_files, state_files, why_of, unread};
+ghost use Rattle.command_plan.specs.Files.{state_of_names, OnlyReads, image_file, source_file, input_files, state_files, why_of, unread};
 ghost use Rattle.command_plan.specs.Plans.{IsInputText, IsStateText};
 ghost use Rattle.command_plan.specs.Reads.{Gave, Asks};
 ghost use Rattle.rpp_ports.specs.Ports.{IsTextOf};
@@ -106,7 +106,7 @@ pub fn read_given<S: Shelf>(
     ensures within { IfOk result (λ given. length given.text.items ≤ MOST_BYTES) }
     ensures within_input { IfOk result (λ given. length given.input.items ≤ MOST_INPUT) }
     ensures reads { OnlyReads (S.texts shelf.old) (S.texts shelf.new) (S.faults shelf.old)
-        (S.faults shelf.new) (source file.now ∷ input_files (option_map string_bytes input.now))
+        (S.faults shelf.new) (source_file file.now ∷ input_files (option_map string_bytes input.now))
         result }
 {
     let text = read_file(alloc, shelf, file, MOST_BYTES as u64)?;

@@ -9,7 +9,7 @@ ghost use Rattle.source_meaning.specs.declared.whole.TheConstants.{MOST_OPEN};
 ghost use Rattle.command_plan.specs.pisa_loader.Limiting.{limits_refusal};
 ghost use Rattle.command_plan.specs.pisa_loader.declared.input.TheConstants.{MOST_INPUT};
 ghost use Rattle.command_plan.specs.Plans.{planned, prints, GivesPlan};
-ghost use Rattle.command_plan.specs.Files.{OnlyReads, source, input_files};
+ghost use Rattle.command_plan.specs.Files.{OnlyReads, source_file, input_files};
 ghost use Rattle.command_plan.specs.pisa_scripts.Stops.{fault_line as line_of_fault};
 ghost use Rattle.run_settings.specs.Inputs.{given_input};
 ghost use Rattle.explain_commands.specs.Explained.{cost_line, explained, Tells, IsExplainedInput, IsExplainedWithin, IsExplainPlan, Explains};
@@ -39,7 +39,7 @@ pub fn explain<S: Shelf>(
         (Explains file.now (option_map string_bytes input.now) sizes) result }
     ensures reads { OnlyReads (S.texts shelf.old) (S.texts shelf.new) (S.faults shelf.old)
         (S.faults shelf.new)
-        (source file.now ∷ input_files (option_map string_bytes input.now)) result }
+        (source_file file.now ∷ input_files (option_map string_bytes input.now)) result }
 {
     let given = read_given(alloc, shelf, file, input)?;
     Ok(explain_text(alloc, &given.text, &given.input, sizes)?)

@@ -12,7 +12,7 @@ ghost use Rattle.roopl_judge.specs.class_rules.Classes.{class_fields, main_of};
 ghost use Rattle.roopl_judge.specs.class_rules.Program.{IsAccepted};
 ghost use Rattle.store_report.specs.roopl_semantics.Store.{object_at, main_name};
 ghost use Rattle.store_report.specs.roopl_semantics.Report.{report as report_in, value_shown, number_shown, field_lines, element_lines, head_shown, cell_lines, object_lines, live_line};
-ghost use Rattle.source_meaning.specs.source_store.ValueView.{value_of, values_of, head_of};
+ghost use Rattle.source_meaning.specs.source_store.ValueView.{value_of, values_of, kept_head};
 ghost use Rattle.store_report.specs.Ascii.{HasAsciiName};
 
 use crate::meeting::{cells_at, name_at, numbered, place_of};
@@ -150,7 +150,7 @@ fn add_class(out: &mut String, program: &Program, class: u32) -> Result<(), Allo
 fn add_head(out: &mut String, program: &Program, head: Head) -> Result<(), AllocError>
     requires { IsAccepted (source_of program.now) }
     ensures { OnOk result (string_bytes out.new
-        ≡ string_bytes out.old ++ head_shown (source_of program.now) (head_of head)) }
+        ≡ string_bytes out.old ++ head_shown (source_of program.now) (kept_head head)) }
 {
     match head {
         Head::Class(class) => add_class(out, program, class),
@@ -189,7 +189,7 @@ fn add_cells(
     values: &[Value],
 ) -> Result<(), AllocError>
     ensures { OnOk result (string_bytes out.new
-        ≡ string_bytes out.old ++ cell_lines (source_of checked.now) names.now.keys (head_of head)
+        ≡ string_bytes out.old ++ cell_lines (source_of checked.now) names.now.keys (kept_head head)
         (values_of values.now)) }
 {
     match head {
@@ -200,7 +200,7 @@ fn add_cells(
 }
 
 fn head_at(heap: &Heap, name: u32) -> Head
-    ensures { head_of result ≡ (object_at heap.now.store name).head }
+    ensures { kept_head result ≡ (object_at heap.now.store name).head }
 {
     match heap.object(name) {
         None => Head::Ints(0),

@@ -4,15 +4,15 @@ use Rattle.std.specs.Prelude.{Ok}
 use Rattle.rpp_tree.specs.Tree.{Expression, Null, Lvalue}
 use Rattle.register_expressions.specs.pisa_isa.Machine.{Memory}
 use Rattle.register_expressions.specs.paired_code.declared.part.Symbol.{Symbol}
-use Rattle.register_expressions.specs.paired_code.Machine.{Image, reg}
+use Rattle.register_expressions.specs.paired_code.Machine.{Image, memory_reg}
 use Rattle.register_expressions.specs.refine_form.declared.spot.Spot.{Spot}
 use Rattle.register_expressions.specs.Code.{words, around}
 use Rattle.expr_uncompute.specs.Code.{place_words, found_place_cells, found_value_cells, found_places_cells}
 use Rattle.register_expressions.specs.Number.{number, lvalue_read, index_of, place_address}
 use Rattle.register_expressions.specs.Laws.{bases_of, Ready}
-use Rattle.expr_uncompute.specs.Laws.{Stays}
-use Rattle.expr_uncompute.specs.Promises.{CanRun}
-use Rattle.expr_uncompute.specs.Found.{found, Filled, Changes, Encloses, PlaceAroundLaw, ValueAroundLaw, PlacesStay}
+use Rattle.expr_uncompute.specs.Laws.{UpdateStays}
+use Rattle.expr_uncompute.specs.Promises.{CanEvaluate}
+use Rattle.expr_uncompute.specs.Found.{found_memory, Filled, Changes, Encloses, PlaceAroundLaw, ValueAroundLaw, PlacesStay}
 use Rattle.expr_uncompute.specs.Found.{PlacesAroundLaw, found_place_steps, found_value_steps, found_places_steps}
 use Rattle.register_expressions.proofs.Goes.{Goes}
 use Rattle.expr_uncompute.proofs.Enclosing.{leaves_around, traps_in_middle}
@@ -29,7 +29,7 @@ use Rattle.expr_uncompute.proofs.FoundLaws.{place_held, place_fails, place_share
 use Rattle.expr_uncompute.proofs.FoundLaws.{places_share}
 
 -- the memory after a change is ready too
-ready_again : (free n : ℕ) (m : Memory) (cells' : List ℕ) → Ready free n m → Changes (reg m 4 + free) m.cells cells'
+ready_again : (free n : ℕ) (m : Memory) (cells' : List ℕ) → Ready free n m → Changes (memory_reg m 4 + free) m.cells cells'
     → Ready free n (record m { cells = cells' })
 ready_again free n m cells' h c = record {
   count = h.count;
@@ -42,17 +42,17 @@ ready_again free n m cells' h c = record {
 
 -- a fragment that finds the same in both memories, around a middle
 encloses : (w mid : List Symbol) (k low n v a a' : ℕ) (m : Memory) (fill : List ℕ → List ℕ) (Kept : List ℕ → Type 0)
-    → Goes w k m (found v a a' (fill m.cells) m) → Filled low n m.cells (fill m.cells)
+    → Goes w k m (found_memory v a a' (fill m.cells) m) → Filled low n m.cells (fill m.cells)
     → ((cells' : List ℕ) → Changes low m.cells cells' → Kept cells'
-    → Goes w k (record m { cells = cells' }) (found v a a' (fill cells') m) × Filled low n cells' (fill cells')
+    → Goes w k (record m { cells = cells' }) (found_memory v a a' (fill cells') m) × Filled low n cells' (fill cells')
     × Changes low (fill m.cells) (fill cells'))
     → (im : Image) (d : Bool) → Encloses im d m low n k v a a' Kept mid (around w mid)
 encloses w mid k low n v a a' m fill Kept g f again im d = record {
   leads = λ cells' least most c s on.
       let t = again cells' c s in
-      leaves_around im w mid k least most m (found v a a' (fill m.cells) m) (found v a a' (fill cells') m)
+      leaves_around im w mid k least most m (found_memory v a a' (fill m.cells) m) (found_memory v a a' (fill cells') m)
       (record m { cells = cells' }) g t.0 d (on (fill m.cells) (fill cells') f t.1 t.2);
-  traps = λ code most on. traps_in_middle im w mid k code most m (found v a a' (fill m.cells) m) g d
+  traps = λ code most on. traps_in_middle im w mid k code most m (found_memory v a a' (fill m.cells) m) g d
       (on (fill m.cells) f);
 }
 
@@ -60,19 +60,19 @@ module _ (spot : List ℕ → Spot) (free : ℕ) where
   -- ---- a place
 
   module _ (target : Lvalue) (mid : List Symbol) where
-    place_again : (m : Memory) (a : ℕ) → CanRun spot free (place_words target) (lvalue_read target) (Null 0) m
+    place_again : (m : Memory) (a : ℕ) → CanEvaluate spot free (place_words target) (lvalue_read target) (Null 0) m
         → place_address spot (bases_of m) m.cells target ≡ Ok a
-        → (cells' : List ℕ) → Changes (reg m 4 + free) m.cells cells'
-        → Stays spot (bases_of m) (reg m 4 + free) target (Null 0) m.cells cells'
+        → (cells' : List ℕ) → Changes (memory_reg m 4 + free) m.cells cells'
+        → UpdateStays spot (bases_of m) (memory_reg m 4 + free) target (Null 0) m.cells cells'
         → Goes (found_place_cells spot free target) (found_place_steps target) (record m { cells = cells' })
-        (found 0 a 0 (placed spot free (bases_of m) target 0 cells') m)
-        × Filled (reg m 4 + free) (place_words target) cells' (placed spot free (bases_of m) target 0 cells')
-        × Changes (reg m 4 + free) (placed spot free (bases_of m) target 0 m.cells)
+        (found_memory 0 a 0 (placed spot free (bases_of m) target 0 cells') m)
+        × Filled (memory_reg m 4 + free) (place_words target) cells' (placed spot free (bases_of m) target 0 cells')
+        × Changes (memory_reg m 4 + free) (placed spot free (bases_of m) target 0 m.cells)
         (placed spot free (bases_of m) target 0 cells')
     place_again m a r n cells' c s =
         let h = ready_again free (place_words target) m cells' r.ready c in (
           place_held spot free (record m { cells = cells' }) target (index_of target) (Null 0) a h s.place_sees
-              (index_seen spot (bases_of m) (reg m 4 + free) target cells' s.place_sees) tt
+              (index_seen spot (bases_of m) (memory_reg m 4 + free) target cells' s.place_sees) tt
               (place_kept spot free m target m.cells cells' a s.place_same n) s.apart,
           place_fills spot free (bases_of m) target cells' c.words s.place_sees,
           place_changes spot free (bases_of m) target m.cells cells' r.first s.place_sees s.place_same c,
@@ -81,31 +81,31 @@ module _ (spot : List ℕ → Spot) (free : ℕ) where
     pub place_around : PlaceAroundLaw spot free target mid (around (found_place_cells spot free target) mid)
     place_around = record {
       encloses = λ im d m r a n apart.
-          encloses (found_place_cells spot free target) mid (found_place_steps target) (reg m 4 + free)
+          encloses (found_place_cells spot free target) mid (found_place_steps target) (memory_reg m 4 + free)
           (place_words target) 0 a 0 m (placed spot free (bases_of m) target 0)
-          (Stays spot (bases_of m) (reg m 4 + free) target (Null 0) m.cells)
+          (UpdateStays spot (bases_of m) (memory_reg m 4 + free) target (Null 0) m.cells)
           (place_held spot free m target (index_of target) (Null 0) a r.ready r.first
-          (index_seen spot (bases_of m) (reg m 4 + free) target m.cells r.first) tt n apart)
+          (index_seen spot (bases_of m) (memory_reg m 4 + free) target m.cells r.first) tt n apart)
           (place_fills spot free (bases_of m) target m.cells r.ready.words r.first)
           (place_again m a r n) im d;
       place_faults = λ im d m r c n. place_fails spot free m target c _ mid r.ready r.first n im d;
       sharing_faults = λ im d m r a n shared. place_shares spot free m target (index_of target) (Null 0) a mid r.ready
-          r.first (index_seen spot (bases_of m) (reg m 4 + free) target m.cells r.first) tt n shared im d;
+          r.first (index_seen spot (bases_of m) (memory_reg m 4 + free) target m.cells r.first) tt n shared im d;
     }
 
   -- ---- a place and a value
 
   module _ (target : Lvalue) (value : Expression) (mid : List Symbol) where
-    value_again : (m : Memory) (a v : ℕ) → CanRun spot free (place_words target + words value) (lvalue_read target)
+    value_again : (m : Memory) (a v : ℕ) → CanEvaluate spot free (place_words target + words value) (lvalue_read target)
         value m
         → place_address spot (bases_of m) m.cells target ≡ Ok a → number spot (bases_of m) m.cells value ≡ Ok v
-        → (cells' : List ℕ) → Changes (reg m 4 + free) m.cells cells'
-        → Stays spot (bases_of m) (reg m 4 + free) target value m.cells cells'
+        → (cells' : List ℕ) → Changes (memory_reg m 4 + free) m.cells cells'
+        → UpdateStays spot (bases_of m) (memory_reg m 4 + free) target value m.cells cells'
         → Goes (found_value_cells spot free target value) (found_value_steps target value) (record m { cells = cells' })
-        (found v a 0 (filled spot free (bases_of m) target value cells') m)
-        × Filled (reg m 4 + free) (place_words target + words value) cells'
+        (found_memory v a 0 (filled spot free (bases_of m) target value cells') m)
+        × Filled (memory_reg m 4 + free) (place_words target + words value) cells'
         (filled spot free (bases_of m) target value cells')
-        × Changes (reg m 4 + free) (filled spot free (bases_of m) target value m.cells)
+        × Changes (memory_reg m 4 + free) (filled spot free (bases_of m) target value m.cells)
         (filled spot free (bases_of m) target value cells')
     value_again m a v r na nv cells' c s =
         let h = ready_again free (place_words target + words value) m cells' r.ready c in
@@ -123,38 +123,38 @@ module _ (spot : List ℕ → Spot) (free : ℕ) where
     pub value_around : ValueAroundLaw spot free target value mid (around (found_value_cells spot free target value) mid)
     value_around = record {
       encloses = λ im d m r a v na nv apart.
-          encloses (found_value_cells spot free target value) mid (found_value_steps target value) (reg m 4 + free)
+          encloses (found_value_cells spot free target value) mid (found_value_steps target value) (memory_reg m 4 + free)
           (place_words target + words value) v a 0 m (filled spot free (bases_of m) target value)
-          (Stays spot (bases_of m) (reg m 4 + free) target value m.cells)
+          (UpdateStays spot (bases_of m) (memory_reg m 4 + free) target value m.cells)
           (value_held spot free m target value a v r na nv apart)
           (value_fills spot free (bases_of m) target value m.cells
           (fit_from spot free m target (words value) r.ready r.first) r.second)
           (value_again m a v r na nv) im d;
       place_faults = λ im d m r c n. run_traps spot free m (place_words target + words value) r.ready im d _ _ c
-          (found_traps_place spot free (bases_of m) (reg m) target value _ mid m.cells c
+          (found_traps_place spot free (bases_of m) (memory_reg m) target value _ mid m.cells c
           (fit_from spot free m target (words value) r.ready r.first) n);
       value_faults = λ im d m r a c na n. run_traps spot free m (place_words target + words value) r.ready im d _ _ c
-          (found_traps_value spot free (bases_of m) (reg m) target value _ mid m.cells a c
+          (found_traps_value spot free (bases_of m) (memory_reg m) target value _ mid m.cells a c
           (fit_from spot free m target (words value) r.ready r.first) r.second na n);
       sharing_faults = λ im d m r a v na nv shared. run_traps spot free m (place_words target + words value) r.ready im
-          d _ _ 16 (found_traps_sharing spot free (bases_of m) (reg m) target value mid m.cells a v
+          d _ _ 16 (found_traps_sharing spot free (bases_of m) (memory_reg m) target value mid m.cells a v
           (fit_from spot free m target (words value) r.ready r.first) r.second na nv shared);
     }
 
   -- ---- two places
 
   module _ (source target : Lvalue) (mid : List Symbol) where
-    places_again : (m : Memory) (a a' : ℕ) → CanRun spot free (place_words source + place_words target)
+    places_again : (m : Memory) (a a' : ℕ) → CanEvaluate spot free (place_words source + place_words target)
         (lvalue_read source)
         (lvalue_read target) m → place_address spot (bases_of m) m.cells source ≡ Ok a
         → place_address spot (bases_of m) m.cells target ≡ Ok a'
-        → (cells' : List ℕ) → Changes (reg m 4 + free) m.cells cells'
-        → PlacesStay spot (bases_of m) (reg m 4 + free) source target m.cells cells'
+        → (cells' : List ℕ) → Changes (memory_reg m 4 + free) m.cells cells'
+        → PlacesStay spot (bases_of m) (memory_reg m 4 + free) source target m.cells cells'
         → Goes (found_places_cells spot free source target) (found_places_steps source target)
-        (record m { cells = cells' }) (found 0 a a' (both_placed spot free (bases_of m) source target cells') m)
-        × Filled (reg m 4 + free) (place_words source + place_words target) cells'
+        (record m { cells = cells' }) (found_memory 0 a a' (both_placed spot free (bases_of m) source target cells') m)
+        × Filled (memory_reg m 4 + free) (place_words source + place_words target) cells'
         (both_placed spot free (bases_of m) source target cells')
-        × Changes (reg m 4 + free) (both_placed spot free (bases_of m) source target m.cells)
+        × Changes (memory_reg m 4 + free) (both_placed spot free (bases_of m) source target m.cells)
         (both_placed spot free (bases_of m) source target cells')
     places_again m a a' r na na' cells' c s =
         let h = ready_again free (place_words source + place_words target) m cells' r.ready c in
@@ -173,18 +173,18 @@ module _ (spot : List ℕ → Spot) (free : ℕ) where
         (around (found_places_cells spot free source target) mid)
     places_around = record {
       encloses = λ im d m r a a' na na' apart.
-          encloses (found_places_cells spot free source target) mid (found_places_steps source target) (reg m 4 + free)
+          encloses (found_places_cells spot free source target) mid (found_places_steps source target) (memory_reg m 4 + free)
           (place_words source + place_words target) 0 a a' m (both_placed spot free (bases_of m) source target)
-          (PlacesStay spot (bases_of m) (reg m 4 + free) source target m.cells)
+          (PlacesStay spot (bases_of m) (memory_reg m 4 + free) source target m.cells)
           (places_held spot free m source target a a' r na na' apart)
           (places_fill spot free (bases_of m) source target m.cells
           (fit_from spot free m source (place_words target) r.ready r.first) r.second)
           (places_again m a a' r na na') im d;
       source_faults = λ im d m r c n. run_traps spot free m (place_words source + place_words target) r.ready im d _ _ c
-          (both_traps_first spot free (bases_of m) (reg m) source target _ mid m.cells c
+          (both_traps_first spot free (bases_of m) (memory_reg m) source target _ mid m.cells c
           (fit_from spot free m source (place_words target) r.ready r.first) n);
       target_faults = λ im d m r a c na n. run_traps spot free m (place_words source + place_words target) r.ready im d
-          _ _ c (both_traps_second spot free (bases_of m) (reg m) source target _ mid m.cells a c
+          _ _ c (both_traps_second spot free (bases_of m) (memory_reg m) source target _ mid m.cells a c
           (fit_from spot free m source (place_words target) r.ready r.first) r.second na n);
       sharing_faults = λ im d m r a a' na na' shared. places_share spot free m source target a a' mid r na na' shared im
           d;

@@ -21,7 +21,7 @@ use Rattle.register_expressions.specs.Steps.{held_value_steps, held_test_steps}
 use Rattle.expr_uncompute.specs.Steps.{prepared_value_steps, prepared_test_steps}
 use Rattle.expr_uncompute.specs.Steps.{value_steps, test_steps, fetch_steps, place_steps, compare_steps, apart_steps}
 use Rattle.expr_uncompute.specs.Steps.{both_apart_steps, found_update_steps, update_steps, found_swap_steps}
-use Rattle.register_expressions.specs.Steps.{tokens}
+use Rattle.register_expressions.specs.Steps.{token_count}
 use Rattle.expr_uncompute.specs.Steps.{swap_steps, place_tokens}
 use Rattle.register_expressions.specs.Held.{need, has_element, is_held, is_opened_once, is_near, is_near_index}
 use Rattle.register_expressions.specs.Steps.{around_steps, held_steps}
@@ -344,7 +344,7 @@ module _ (spot : List ℕ → Spot) (free : ℕ) where
   store_cells : (s : Spot) (r : ℕ) → length (cells.store_cells s r) ≡ 5
   store_cells s r = length_around (cells.reach_cells s) (cells.xor CONTENT r ∷ [])
 
-  prepare_cells : (e : Expression) (i : ℕ) → length (Code.prepare_cells spot free e i) + 16 ≤ 29 * tokens e
+  prepare_cells : (e : Expression) (i : ℕ) → length (Code.prepare_cells spot free e i) + 16 ≤ 29 * token_count e
   prepare_cells (Number at word) i = omega arith
   prepare_cells (Null at) i = omega arith
   prepare_cells (Variable name) i = omega arith
@@ -384,7 +384,7 @@ module _ (spot : List ℕ → Spot) (free : ℕ) where
 
   -- the subexpressions and the opened node, with space for nine cells
   both_cells : (e : Expression) (i : ℕ) → length (Code.parts_cells spot free e i) + length
-      (Code.open_cells spot free e i) + 9 ≤ 29 * tokens e
+      (Code.open_cells spot free e i) + 9 ≤ 29 * token_count e
   both_cells (Number at word) i = omega arith
   both_cells (Null at) i = omega arith
   both_cells (Variable name) i = omega arith
@@ -400,7 +400,7 @@ module _ (spot : List ℕ → Spot) (free : ℕ) where
             (Code.prepare_cells spot free right (i + 1 + cells.words left)),
       )
 
-  prepared_value_cells : (e : Expression) (into : ℕ) → length (Code.prepared_value_cells spot free e into) ≤ 58 * tokens
+  prepared_value_cells : (e : Expression) (into : ℕ) → length (Code.prepared_value_cells spot free e into) ≤ 58 * token_count
       e
   prepared_value_cells e into =
       let mid = cells.around (Code.open_cells spot free e 0) (cells.xor into (Code.result_of e) ∷ []) in
@@ -411,15 +411,15 @@ module _ (spot : List ℕ → Spot) (free : ℕ) where
         length_around (Code.open_cells spot free e 0) (cells.xor into (Code.result_of e) ∷ []),
       )
 
-  pub value_cells : (e : Expression) (into : ℕ) → length (Code.value_cells spot free e into) ≤ 58 * tokens e
+  pub value_cells : (e : Expression) (into : ℕ) → length (Code.value_cells spot free e into) ≤ 58 * token_count e
   value_cells e into = by (is_held e)
     where
       by : (t : Bool) → length (if t then cells.held_value_cells spot e into
-          else Code.prepared_value_cells spot free e into) ≤ 58 * tokens e
+          else Code.prepared_value_cells spot free e into) ≤ 58 * token_count e
       by true = held_value_length spot e into
       by false = prepared_value_cells e into
 
-  prepared_test_cells : (e : Expression) (into : ℕ) → length (Code.prepared_test_cells spot free e into) ≤ 58 * tokens e
+  prepared_test_cells : (e : Expression) (into : ℕ) → length (Code.prepared_test_cells spot free e into) ≤ 58 * token_count e
   prepared_test_cells e into =
       let w = Code.open_cells spot free e 0 ++ cells.truth_cells TRUTH (Code.result_of e) in
       let mid = cells.around w (cells.xor into TRUTH ∷ []) in
@@ -432,17 +432,17 @@ module _ (spot : List ℕ → Spot) (free : ℕ) where
             (cells.truth_cells TRUTH (Code.result_of e)),
       )
 
-  pub test_cells : (e : Expression) (into : ℕ) → length (Code.test_cells spot free e into) ≤ 58 * tokens e
+  pub test_cells : (e : Expression) (into : ℕ) → length (Code.test_cells spot free e into) ≤ 58 * token_count e
   test_cells e into = by (is_held e)
     where
       by : (t : Bool) → length (if t then cells.held_test_cells spot e into
-          else Code.prepared_test_cells spot free e into) ≤ 58 * tokens e
+          else Code.prepared_test_cells spot free e into) ≤ 58 * token_count e
       by true = held_test_length spot e into
       by false = prepared_test_cells e into
 
   -- and where it is opened twice
   twice_open : (e : Expression) (i : ℕ) → length (Code.parts_cells spot free e i) +
-      (length (Code.open_cells spot free e i) + (1 + length (Code.open_cells spot free e i))) ≤ 29 * tokens e
+      (length (Code.open_cells spot free e i) + (1 + length (Code.open_cells spot free e i))) ≤ 29 * token_count e
   twice_open (Number at word) i = omega arith
   twice_open (Null at) i = omega arith
   twice_open (Variable name) i = omega arith
@@ -458,7 +458,7 @@ module _ (spot : List ℕ → Spot) (free : ℕ) where
             (Code.prepare_cells spot free right (i + 1 + cells.words left)),
       )
 
-  fetch_cells : (e : Expression) (i into : ℕ) → length (Code.fetch_cells spot free e i into) ≤ 29 * tokens e
+  fetch_cells : (e : Expression) (i into : ℕ) → length (Code.fetch_cells spot free e i into) ≤ 29 * token_count e
   fetch_cells e i into =
       let mid = cells.around (Code.open_cells spot free e i) (cells.xor into (Code.result_of e) ∷ []) in
       omega (
@@ -494,7 +494,7 @@ module _ (spot : List ℕ → Spot) (free : ℕ) where
         copy_cells x LEFT,
       )
 
-  compare_all : (x : Spot) (e : Expression) → length (Code.compare_all spot x e) ≤ 11 * tokens e
+  compare_all : (x : Spot) (e : Expression) → length (Code.compare_all spot x e) ≤ 11 * token_count e
   compare_all x (Number at word) = omega arith
   compare_all x (Null at) = omega arith
   compare_all x (Variable name) = omega arith
@@ -511,12 +511,12 @@ module _ (spot : List ℕ → Spot) (free : ℕ) where
       let c = compare_all x right in
       omega (arith, length-append (Code.compare_all spot x left) (Code.compare_all spot x right))
 
-  index_tokens : (target : Lvalue) → tokens (index_of target) ≤ place_tokens target
+  index_tokens : (target : Lvalue) → token_count (index_of target) ≤ place_tokens target
   index_tokens (Whole name) = omega arith
   index_tokens (Item name index) = omega arith
 
   apart_cells : (target : Lvalue) (e e' : Expression) → length (Code.apart_cells spot target e e') ≤ 11 *
-      (tokens e + tokens e')
+      (token_count e + token_count e')
   apart_cells (Whole name) e e' = omega arith
   apart_cells (Item name index) e e' =
       let a = compare_all (spot name.text) e in
@@ -541,7 +541,7 @@ module _ (spot : List ℕ → Spot) (free : ℕ) where
 
   pub value_around : (target : Lvalue) (e : Expression) (mid : List Symbol)
       → length (cells.around (Code.found_value_cells spot free target e) mid) ≤ length mid + 80 *
-      (place_tokens target + tokens e)
+      (place_tokens target + token_count e)
   value_around target e mid =
       let p = Code.place_cells spot free target 0 PLACE in
       let v = Code.fetch_cells spot free e (Code.place_words target) AMOUNT in
@@ -567,7 +567,7 @@ module _ (spot : List ℕ → Spot) (free : ℕ) where
       omega (arith, length_around ((p ++ v) ++ k) mid, length-append (p ++ v) k, length-append p v)
 
   found_update_cells : (o : UpdateOp) (target : Lvalue) (e : Expression)
-      → length (Code.found_update_cells spot free o target e) ≤ 80 * (place_tokens target + 1 + tokens e)
+      → length (Code.found_update_cells spot free o target e) ≤ 80 * (place_tokens target + 1 + token_count e)
   found_update_cells o target e =
       let p = Code.place_cells spot free target 0 PLACE in
       let v = Code.fetch_cells spot free e (Code.place_words target) AMOUNT in
@@ -581,7 +581,7 @@ module _ (spot : List ℕ → Spot) (free : ℕ) where
       omega (arith, length_around ((p ++ v) ++ k) mid, length-append (p ++ v) k, length-append p v)
 
   pub update_cells : (o : UpdateOp) (target : Lvalue) (e : Expression)
-      → length (Code.update_cells spot free o target e) ≤ 80 * (place_tokens target + 1 + tokens e)
+      → length (Code.update_cells spot free o target e) ≤ 80 * (place_tokens target + 1 + token_count e)
   update_cells o (Whole name) (Number at word) = omega (
     arith,
     length_around (cells.reach_cells (spot name.text)) (Code.number_cell o CONTENT word ∷ []),
@@ -597,7 +597,7 @@ module _ (spot : List ℕ → Spot) (free : ℕ) where
       by (Binary at p left right) (is_opened_once (Binary at p left right))
     where
       by : (e : Expression) (t : Bool) → length (if t then Code.held_update_cells spot o (spot name.text) e
-          else Code.found_update_cells spot free o (Whole name) e) ≤ 80 * (place_tokens (Whole name) + 1 + tokens e)
+          else Code.found_update_cells spot free o (Whole name) e) ≤ 80 * (place_tokens (Whole name) + 1 + token_count e)
       by e true =
           let alter = Code.update_cell o CONTENT (cells.part 0) ∷ [] in
           let a = held_length spot e 0 in
@@ -610,7 +610,7 @@ module _ (spot : List ℕ → Spot) (free : ℕ) where
   update_cells o (Item name index) e = by (is_near index e)
     where
       by : (t : Bool) → length (if t then Code.near_update_cells spot o name.text index e
-          else Code.found_update_cells spot free o (Item name index) e) ≤ 80 * (3 + tokens index + 1 + tokens e)
+          else Code.found_update_cells spot free o (Item name index) e) ≤ 80 * (3 + token_count index + 1 + token_count e)
       by true =
           let a = held_length spot index 2 in
           let d = held_length spot e (2 + need index) in
@@ -660,13 +660,13 @@ module _ (spot : List ℕ → Spot) (free : ℕ) where
         length-append k l,
       )
 
-  beyond_length : (x y : Spot) → length (Code.beyond x y) ≡ 4
-  beyond_length x y = length_around (Code.onward x y ∷ []) (cells.exch SECOND_WORD (cells.base_of y)
+  beyond_length : (x y : Spot) → length (Code.beyond_cells x y) ≡ 4
+  beyond_length x y = length_around (Code.onward_cell x y ∷ []) (cells.exch SECOND_WORD (cells.base_of y)
       ∷ cells.exch FIRST_WORD (cells.base_of y) ∷ [])
 
   by_one_length : (x y : Spot) → length (Code.swap_by_one x y) ≡ 8
   by_one_length x y =
-      let w = cells.exch FIRST_WORD (cells.base_of x) ∷ Code.beyond x y in
+      let w = cells.exch FIRST_WORD (cells.base_of x) ∷ Code.beyond_cells x y in
       let last = cells.exch SECOND_WORD (cells.base_of x) ∷ [] in
       omega (
         arith,
@@ -676,7 +676,7 @@ module _ (spot : List ℕ → Spot) (free : ℕ) where
       )
 
   at_length : (x y : Spot) → length (Code.swap_at x y) ≡ 8
-  at_length x y = length_around (cells.addi (cells.base_of x) (offset_of x) ∷ Code.onward x y ∷ [])
+  at_length x y = length_around (cells.addi (cells.base_of x) (offset_of x) ∷ Code.onward_cell x y ∷ [])
       (Code.four_exchanges (cells.base_of x) (cells.base_of y))
 
   spots_length : (t : Bool) (x y : Spot) → length (if t then Code.swap_by_one x y else Code.swap_at x y) ≡ 8
@@ -684,7 +684,7 @@ module _ (spot : List ℕ → Spot) (free : ℕ) where
   spots_length false x y = at_length x y
 
   near_swap : (p q : ℕ) (x : Spot) (name : List ℕ) (index : Expression)
-      → length (Code.near_swap_cells spot free p q x name index) ≤ 80 * (4 + tokens index)
+      → length (Code.near_swap_cells spot free p q x name index) ≤ 80 * (4 + token_count index)
   near_swap p q x name index =
       let a = prepare_cells index 0 in
       let c = checked_cells name index 0 in

@@ -14,8 +14,8 @@ use Rattle.register_expressions.specs.refine_form.declared.spot.Spot.{Spot}
 use Rattle.register_expressions.specs.refine_form.declared.spot.Spot.TheVariants.{Field, Frame}
 use Rattle.register_expressions.specs.code_scope.Visible.{offset_of}
 use Rattle.register_expressions.specs.Code.{addi, exch, base_of}
-use Rattle.expr_uncompute.specs.Code.{onward, four_exchanges, swap_at, swap_by_one, have_one_base, swap_spots}
-use Rattle.register_expressions.specs.Number.{Bases, address_of}
+use Rattle.expr_uncompute.specs.Code.{onward_cell, four_exchanges, swap_at, swap_by_one, have_one_base, swap_spots}
+use Rattle.register_expressions.specs.Number.{Bases, spot_address}
 use Rattle.expr_uncompute.specs.Laws.{swapped_at}
 use Rattle.register_expressions.proofs.Goes.{Goes, goes_seq, goes_cons, goes_to, goes_around, goes_exch}
 use Rattle.register_expressions.proofs.Operators.{operands}
@@ -121,18 +121,18 @@ module _ (b : Bases) (f : ℕ → ℕ) where
         (λ z ws. refl) (λ z ws. refl);
   }
 
-  both_at : (x y : Spot) (zs : List ℕ) → address_of b x < 2 ^ 32 → address_of b y < 2 ^ 32
-      → Goes (addi (base_of x) (offset_of x) ∷ onward x y ∷ []) 2 (mem b f (keeping 0 0 0) zs)
+  both_at : (x y : Spot) (zs : List ℕ) → spot_address b x < 2 ^ 32 → spot_address b y < 2 ^ 32
+      → Goes (addi (base_of x) (offset_of x) ∷ onward_cell x y ∷ []) 2 (mem b f (keeping 0 0 0) zs)
       (mem (onto b x y) f (keeping 0 0 0) zs)
   both_at x y zs h k = goes_cons (there_goes b f (keeping 0 0 0) zs x h) (on_goes b f (keeping 0 0 0) zs x y h k)
 
   -- both bases are at their storage slots
-  at_goes : (x y : Spot) (zs : List ℕ) → stand (onto b x y) x ≡ address_of b x → address_of b x < length zs
-      → address_of b y < length zs → length zs ≤ 2 ^ 31 → Goes (swap_at x y) 8 (mem b f (keeping 0 0 0) zs)
-      (mem b f (keeping 0 0 0) (swapped_at (address_of b x) (address_of b y) zs))
+  at_goes : (x y : Spot) (zs : List ℕ) → stand (onto b x y) x ≡ spot_address b x → spot_address b x < length zs
+      → spot_address b y < length zs → length zs ≤ 2 ^ 31 → Goes (swap_at x y) 8 (mem b f (keeping 0 0 0) zs)
+      (mem b f (keeping 0 0 0) (swapped_at (spot_address b x) (spot_address b y) zs))
   at_goes x y zs e h k small =
-      let p : ℕ = address_of b x in
-      let q : ℕ = address_of b y in
+      let p : ℕ = spot_address b x in
+      let q : ℕ = spot_address b y in
       let c : Bases = onto b x y in
       let e' : stand c y ≡ q = stands_on b x y in
       goes_around (both_at x y zs (omega arith) (omega arith)) (four_swap (λ x y ws. mem c f (holding x y) ws) p q
@@ -143,12 +143,12 @@ module _ (b : Bases) (f : ℕ → ℕ) where
       (both_at x y (swapped_at p q zs) (omega arith) (omega arith))
 
   -- one base goes to the second spot while the first word is out
-  by_one_goes : (x y : Spot) (zs : List ℕ) → address_of b x ≢ address_of b y → address_of b x < length zs
-      → address_of b y < length zs → length zs ≤ 2 ^ 31 → Goes (swap_by_one x y) 8 (mem b f (keeping 0 0 0) zs)
-      (mem b f (keeping 0 0 0) (swapped_at (address_of b x) (address_of b y) zs))
+  by_one_goes : (x y : Spot) (zs : List ℕ) → spot_address b x ≢ spot_address b y → spot_address b x < length zs
+      → spot_address b y < length zs → length zs ≤ 2 ^ 31 → Goes (swap_by_one x y) 8 (mem b f (keeping 0 0 0) zs)
+      (mem b f (keeping 0 0 0) (swapped_at (spot_address b x) (spot_address b y) zs))
   by_one_goes x y zs n h k small =
-      let p : ℕ = address_of b x in
-      let q : ℕ = address_of b y in
+      let p : ℕ = spot_address b x in
+      let q : ℕ = spot_address b y in
       let v : ℕ = slice_index zs p in
       let w : ℕ = slice_index zs q in
       let n' : q ≢ p = λ e. n (sym e) in
@@ -180,7 +180,7 @@ module _ (b : Bases) (f : ℕ → ℕ) where
       goes_around (there_goes b f (keeping 0 0 0) zs x (omega arith)) (goes_seq (goes_cons out over) home)
       (there_goes b f (keeping 0 0 0) (swapped_at p q zs) x (omega arith))
 
-  differ : (x y : Spot) → have_one_base x y ≡ true → address_of b x ≢ address_of b y
+  differ : (x y : Spot) → have_one_base x y ≡ true → spot_address b x ≢ spot_address b y
   differ (Field i) (Field j) e q =
       let same : i ≡ j = omega arith in
       no_true (nat_eq (HEADER_WORDS + i) (HEADER_WORDS + j)) (grind (arith, nat_tests)) e
@@ -190,7 +190,7 @@ module _ (b : Bases) (f : ℕ → ℕ) where
   differ (Field i) (Frame j) e q = absurd (cc)
   differ (Frame i) (Field j) e q = absurd (cc)
 
-  meet : (x y : Spot) → have_one_base x y ≡ false → stand (onto b x y) x ≡ address_of b x
+  meet : (x y : Spot) → have_one_base x y ≡ false → stand (onto b x y) x ≡ spot_address b x
   meet (Field i) (Field j) e = ⊎_elim (λ same. (let l : i ≡ j = same in omega arith))
       (λ n. absurd (no_false (nat_eq (HEADER_WORDS + i) (HEADER_WORDS + j)) (grind (arith, nat_tests)) e))
       (cases_eq i j)
@@ -199,14 +199,14 @@ module _ (b : Bases) (f : ℕ → ℕ) where
   meet (Field i) (Frame j) e = refl
   meet (Frame i) (Field j) e = refl
 
-  pub spots_go : (x y : Spot) (zs : List ℕ) → address_of b x < length zs → address_of b y < length zs
+  pub spots_go : (x y : Spot) (zs : List ℕ) → spot_address b x < length zs → spot_address b y < length zs
       → length zs ≤ 2 ^ 31 → Goes (swap_spots x y) 8 (mem b f (keeping 0 0 0) zs)
-      (mem b f (keeping 0 0 0) (swapped_at (address_of b x) (address_of b y) zs))
+      (mem b f (keeping 0 0 0) (swapped_at (spot_address b x) (spot_address b y) zs))
   spots_go x y zs h k small = go (have_one_base x y) refl
     where
       go : (t : Bool) → have_one_base x y ≡ t
           → Goes (if t then swap_by_one x y else swap_at x y) 8 (mem b f (keeping 0 0 0) zs)
-          (mem b f (keeping 0 0 0) (swapped_at (address_of b x) (address_of b y) zs))
+          (mem b f (keeping 0 0 0) (swapped_at (spot_address b x) (spot_address b y) zs))
       go true e = by_one_goes x y zs (differ x y e) h k small
       go false e = at_goes x y zs (meet x y e) h k small
 
@@ -246,24 +246,24 @@ module _ (b : Bases) (f : ℕ → ℕ) (i a : ℕ) where
   second_element c u v ws l = goes_exch _ (λ z zs. there c u z zs) a v ws l refl (omega arith) (λ z zs. refl)
       (λ z zs. refl)
 
-  pub variable_first : (x : Spot) (ys : List ℕ) → address_of b x < length ys → a < length ys
+  pub variable_first : (x : Spot) (ys : List ℕ) → spot_address b x < length ys → a < length ys
       → Goes (four_exchanges (base_of x) RIGHT) 4 (mem (moved b x) f (operands 0 0 0 i a) ys)
-      (mem (moved b x) f (operands 0 0 0 i a) (swapped_at (address_of b x) a ys))
+      (mem (moved b x) f (operands 0 0 0 i a) (swapped_at (spot_address b x) a ys))
   variable_first x ys h k =
       let c : Bases = moved b x in
-      let p : ℕ = address_of b x in
+      let p : ℕ = spot_address b x in
       let e : stand c x ≡ p = stands_there b x in
       four_swap (there c) p a (exch FIRST_WORD (base_of x)) (exch SECOND_WORD RIGHT)
       (exch SECOND_WORD (base_of x)) (exch FIRST_WORD RIGHT)
       (λ u v ws l. exchanged f (first_at v) c x p e u ws l) (second_element c)
       (λ u v ws l. exchanged f (second_at u) c x p e v ws l) (first_element c) ys h k
 
-  pub variable_second : (x : Spot) (ys : List ℕ) → a < length ys → address_of b x < length ys
+  pub variable_second : (x : Spot) (ys : List ℕ) → a < length ys → spot_address b x < length ys
       → Goes (four_exchanges RIGHT (base_of x)) 4 (mem (moved b x) f (operands 0 0 0 i a) ys)
-      (mem (moved b x) f (operands 0 0 0 i a) (swapped_at a (address_of b x) ys))
+      (mem (moved b x) f (operands 0 0 0 i a) (swapped_at a (spot_address b x) ys))
   variable_second x ys k h =
       let c : Bases = moved b x in
-      let p : ℕ = address_of b x in
+      let p : ℕ = spot_address b x in
       let e : stand c x ≡ p = stands_there b x in
       four_swap (there c) a p (exch FIRST_WORD RIGHT) (exch SECOND_WORD (base_of x))
       (exch SECOND_WORD RIGHT) (exch FIRST_WORD (base_of x)) (first_element c)

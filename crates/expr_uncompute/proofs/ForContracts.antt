@@ -5,15 +5,15 @@ use Rattle.rpp_tree.specs.Tree.{Expression, Lvalue}
 use Rattle.register_expressions.specs.refine_form.declared.spot.Spot.{Spot}
 use Rattle.register_expressions.specs.Code.{Target}
 use Rattle.expr_uncompute.specs.Code.{value_cells, test_cells, update_cells, swap_cells}
-use Rattle.expr_uncompute.specs.Promises.{ValueLaw, TestLaw, UpdateLaw, SwapLaw}
+use Rattle.expr_uncompute.specs.Promises.{ExpressionLaw, ConditionLaw, UpdateLaw, SwapLaw}
 use Rattle.expr_uncompute.proofs.Whole
 use Rattle.expr_uncompute.proofs.Statements
 
 module _ (spot : List ℕ → Spot) (free : ℕ) where
-  pub value_law : (into : ℕ) (e : Expression) → Target into → ValueLaw spot free into e (value_cells spot free e into)
+  pub value_law : (into : ℕ) (e : Expression) → Target into → ExpressionLaw spot free into e (value_cells spot free e into)
   value_law into e t = record { xors = λ im d m r s. Whole.value_law spot free into e m t r s im d }
 
-  pub test_law : (into : ℕ) (e : Expression) → Target into → TestLaw spot free into e (test_cells spot free e into)
+  pub test_law : (into : ℕ) (e : Expression) → Target into → ConditionLaw spot free into e (test_cells spot free e into)
   test_law into e t = record { xors = λ im d m r s. Whole.test_law spot free into e m t r s im d }
 
   pub update_law : (op : UpdateOp) (target : Lvalue) (value : Expression)

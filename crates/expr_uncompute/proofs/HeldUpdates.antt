@@ -22,7 +22,7 @@ use Rattle.expr_uncompute.specs.Code.{update_cell}
 use Rattle.register_expressions.specs.Code.{held_cells, element_cells}
 use Rattle.expr_uncompute.specs.Code.{held_update_cells, near_middle, near_update_cells}
 use Rattle.register_expressions.specs.Held.{need, has_element, kind}
-use Rattle.register_expressions.specs.Number.{Bases, address_of, given, word_of, number, element_at, IsArray, Sees}
+use Rattle.register_expressions.specs.Number.{Bases, spot_address, word_given, word_of, number, element_at, IsArray, Sees}
 use Rattle.register_expressions.specs.Number.{Same}
 use Rattle.register_expressions.specs.Steps.{around_steps, element_steps, held_steps}
 use Rattle.expr_uncompute.specs.Steps.{near_update_steps, operand_steps, prepare_steps}
@@ -119,12 +119,12 @@ part_not (Frame i) e = omega arith
 
 -- the word of a storage slot
 word_goes : (b : Bases) (op : UpdateOp) (g : ℕ → ℕ) (zs : List ℕ) (sp : Spot) (v : ℕ) → g OBJECT ≡ b.object
-    → g FRAME ≡ b.frame → g CONTENT ≡ 0 → g (part 0) ≡ v → AllWords zs → v < 2 ^ 32 → address_of b sp < length zs
+    → g FRAME ≡ b.frame → g CONTENT ≡ 0 → g (part 0) ≡ v → AllWords zs → v < 2 ^ 32 → spot_address b sp < length zs
     → length zs ≤ 2 ^ 31
     → Goes (around (reach_cells sp) (update_cell op CONTENT (part 0) ∷ [])) 5 (known 32 g zs)
-    (known 32 g (slice_set zs (address_of b sp) (updated op (slice_index zs (address_of b sp)) v)))
+    (known 32 g (slice_set zs (spot_address b sp) (updated op (slice_index zs (spot_address b sp)) v)))
 word_goes b op g zs sp v eo ef ec ep w vw h l =
-    let a : ℕ = address_of b sp in
+    let a : ℕ = spot_address b sp in
     around_alter 0 (omega arith) op zs g (written g (base_of sp) a) a v
     (written_off g (base_of sp) a (part 0) (part_not sp) ∙ ep) vw w h
     (λ ws q. reach_goes 32 b g ws sp (omega arith) eo ef ec (rw q h) (rw q l))
@@ -188,14 +188,14 @@ module _ (b : Bases) (spot : List ℕ → Spot) (low : ℕ) (zs zs' : List ℕ) 
   -- an expression that reads no element, opened over either
   module _ (u : Expression) (k : ℕ) (few : k + need u < 10) (plain : has_element u ≡ false)
       (sees : Sees spot b low zs u) (same : Same spot b zs zs' u) where
-    opens_of : Opens 32 b either (held_cells spot u k) (held_steps u) k (k + need u) (given (number spot b zs u))
+    opens_of : Opens 32 b either (held_cells spot u k) (held_steps u) k (k + need u) (word_given (number spot b zs u))
     opens_of = held_opens 32 b either spot still_small (omega arith) low still_inside zs all u k (omega arith)
         (omega arith) (is_number spot b zs u plain) sees (alike u plain same)
 
   module _ (op : UpdateOp) (e : Expression) (a v k : ℕ) (few : k + need e < 10) (plain : has_element e ≡ false)
       (below : a < length zs) (sees : Sees spot b low zs e) (same : Same spot b zs zs' e)
       (value : number spot b zs e ≡ Ok v) (made : zs' ≡ slice_set zs a (updated op (slice_index zs a) v)) where
-    abbrev opened : Opens 32 b either (held_cells spot e k) (held_steps e) k (k + need e) (given (number spot b zs e))
+    abbrev opened : Opens 32 b either (held_cells spot e k) (held_steps e) k (k + need e) (word_given (number spot b zs e))
     opened = opens_of e k few plain sees same
 
     abbrev wide : Changes 32 b either (held_cells spot e k) (held_steps e) k 9
@@ -209,7 +209,7 @@ module _ (b : Bases) (spot : List ℕ → Spot) (low : ℕ) (zs zs' : List ℕ) 
         → Goes (around (front ++ held_cells spot e k) mid) ((j + held_steps e) + (t + (j + held_steps e))) z z'
     opened_around g free there back mid =
         let h : ℕ → ℕ = opened.change.puts g in
-        let has : h (part k) ≡ v = opened.has g ∙ ap given value in
+        let has : h (part k) ≡ v = opened.has g ∙ ap word_given value in
         let vw : v < 2 ^ 32 = number_word spot b low zs all e sees v value in
         goes_around (goes_seq there (wide.goes g free zs (inl refl)))
         (goes_to refl refl (ap (known 32 h) (sym made)) (mid h (λ r l. wide.low g r l) has vw))
@@ -225,10 +225,10 @@ module _ (b : Bases) (spot : List ℕ → Spot) (low : ℕ) (zs zs' : List ℕ) 
     arr = word_of spot b zs name.text
 
     abbrev x : ℕ
-    x = given (number spot b zs index)
+    x = word_given (number spot b zs index)
 
-    x_is : given (number spot b zs index) ≡ n.x
-    x_is = ap given n.index
+    x_is : word_given (number spot b zs index) ≡ n.x
+    x_is = ap word_given n.index
 
     same_array : word_of spot b zs' name.text ≡ word_of spot b zs name.text
     same_array = let p = n.at in let q = n'.at in omega arith
@@ -236,29 +236,29 @@ module _ (b : Bases) (spot : List ℕ → Spot) (low : ℕ) (zs zs' : List ℕ) 
     shown : Shows 32 b either spot still_small (omega arith) true (spot name.text) (word_of spot b zs name.text)
     shown ws (inl q) = (
       let l = length_is ws (inl q) in let h = sees.0 in omega arith,
-      ap (λ u. slice_index u (address_of b (spot name.text))) q,
+      ap (λ u. slice_index u (spot_address b (spot name.text))) q,
     )
     shown ws (inr q) = (
       let l = length_is ws (inr q) in let h = sees.0 in omega arith,
-      ap (λ u. slice_index u (address_of b (spot name.text))) q ∙ same_array,
+      ap (λ u. slice_index u (spot_address b (spot name.text))) q ∙ same_array,
     )
 
-    stands_before : HasElement (word_of spot b zs name.text) (given (number spot b zs index)) zs
+    stands_before : HasElement (word_of spot b zs name.text) (word_given (number spot b zs index)) zs
     stands_before = has_element_at spot b low zs arr x sees.1 n.array_is
         (let p = n.below in let q = x_is in omega arith)
         inside small
 
-    stands_after : HasElement (word_of spot b zs' name.text) (given (number spot b zs index)) zs'
+    stands_after : HasElement (word_of spot b zs' name.text) (word_given (number spot b zs index)) zs'
     stands_after = has_element_at spot b low zs' (word_of spot b zs' name.text) x sees'.1 n'.array_is
         (let p = n'.below in let q = x_is in omega arith) (omega arith) (omega arith)
 
-    stands : (ws : List ℕ) → either ws → HasElement (word_of spot b zs name.text) (given (number spot b zs index)) ws
+    stands : (ws : List ℕ) → either ws → HasElement (word_of spot b zs name.text) (word_given (number spot b zs index)) ws
     stands ws (inl q) = subst (λ u. HasElement arr x u) (sym q) stands_before
     stands ws (inr q) = subst (λ u. HasElement arr x u) (sym q)
         (subst (λ y. HasElement y x zs') same_array stands_after)
 
     abbrev one : Opens 32 b either (held_cells spot index 2) (held_steps index) (0 + 2) (0 + 2 + need index)
-        (given (number spot b zs index))
+        (word_given (number spot b zs index))
     one = opens_of index 2 few plain sees.2 same
 
     abbrev place : Changes 32 b either (element_cells spot name.text (held_cells spot index 2) 0)
@@ -279,7 +279,7 @@ module _ (b : Bases) (f : ℕ → ℕ) (spot : List ℕ → Spot) (low : ℕ) (o
   count : length zs' ≡ length zs
   count = ap (λ u. length u) made ∙ length-set zs a _
 
-  pub held_update_goes : (sp : Spot) → need e < 10 → address_of b sp ≡ a
+  pub held_update_goes : (sp : Spot) → need e < 10 → spot_address b sp ≡ a
       → Goes (held_update_cells spot op sp e) (around_steps (held_steps e) 5)
       (mem b f (keeping 0 0 0) zs) (mem b f (keeping 0 0 0) zs')
   held_update_goes sp few at =

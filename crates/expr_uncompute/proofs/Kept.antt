@@ -5,7 +5,7 @@ use Rattle.rpp_tree.specs.Tree.{Expression, Number, Null, Variable, Element, Bin
 use Rattle.register_expressions.specs.refine_form.declared.spot.Spot.{Spot}
 use Rattle.register_expressions.specs.Code.{words}
 use Rattle.expr_uncompute.specs.Code.{place_words}
-use Rattle.register_expressions.specs.Number.{Bases, given, number, lvalue_read, Sees, Same, SamePlace}
+use Rattle.register_expressions.specs.Number.{Bases, word_given, number, lvalue_read, Sees, Same, SamePlace}
 use Rattle.expr_uncompute.specs.Found.{Filled, Changes}
 use Rattle.register_expressions.proofs.Numbers.{Agree, AllWords, sees_same}
 use Rattle.expr_uncompute.proofs.Stored.{home, stored, parted, stored_length, stored_other, stored_below, same_lifted}
@@ -31,14 +31,14 @@ module _ (spot : List ℕ → Spot) (free : ℕ) (b : Bases) where
   stored_from (Null at) i zs zs' l s s' h k = k
   stored_from (Variable name) i zs zs' l s s' h k = k
   stored_from (Element name index) i zs zs' l s s' h k = λ a r.
-      let n : ℕ = given (number spot b zs (Element name index)) in
+      let n : ℕ = word_given (number spot b zs (Element name index)) in
       let one : List ℕ = stored spot free b index (i + 1) zs in
       let two : List ℕ = stored spot free b index (i + 1) zs' in
-      ap (λ x. slice_index (slice_set two (home spot free b i) (given x)) a) h.0
+      ap (λ x. slice_index (slice_set two (home spot free b i) (word_given x)) a) h.0
       ∙ set_lifts one two (home spot free b i) n a (stored_length spot free b index (i + 1) zs' ∙ l
       ∙ sym (stored_length spot free b index (i + 1) zs)) (stored_from index (i + 1) zs zs' l s.2 s'.2 h.1 k a r)
   stored_from (Binary at op left right) i zs zs' l s s' h k = λ a r.
-      let n : ℕ = given (number spot b zs (Binary at op left right)) in
+      let n : ℕ = word_given (number spot b zs (Binary at op left right)) in
       let j : ℕ = i + 1 + words left in
       let zs1 : List ℕ = stored spot free b left (i + 1) zs in
       let zs1' : List ℕ = stored spot free b left (i + 1) zs' in
@@ -52,7 +52,7 @@ module _ (spot : List ℕ → Spot) (free : ℕ) (b : Bases) where
       let t' = sees_same spot b low zs' zs1' below' right s'.1 in
       let same = same_lifted spot free b right zs zs' zs1 zs1' below below' s.1 s'.1 h.2 in
       let k1 = stored_from left (i + 1) zs zs' l s.0 s'.0 h.1 k in
-      ap (λ x. slice_index (slice_set two (home spot free b i) (given x)) a) h.0
+      ap (λ x. slice_index (slice_set two (home spot free b i) (word_given x)) a) h.0
       ∙ set_lifts one two (home spot free b i) n a (stored_length spot free b right j zs1' ∙ l1
       ∙ sym (stored_length spot free b right j zs1)) (stored_from right j zs1 zs1' l1 t t' same k1 a r)
 

@@ -9,7 +9,7 @@ use Rattle.register_expressions.specs.code_conventions.declared.faults.TheConsta
 use Rattle.register_expressions.specs.code_conventions.declared.registers.TheConstants.{CONTENT, LEFT}
 use Rattle.register_expressions.specs.paired_code.Layout.{Differ}
 use Rattle.register_expressions.specs.refine_form.declared.spot.Spot.{Spot}
-use Rattle.register_expressions.specs.Number.{Bases, address_of, word_of, lvalue_read, index_of, reads_array, shares}
+use Rattle.register_expressions.specs.Number.{Bases, spot_address, word_of, lvalue_read, index_of, reads_array, shares}
 use Rattle.register_expressions.specs.Number.{swap_shares, Sees}
 use Rattle.register_expressions.specs.Code.{reach_cells, copy_cells}
 use Rattle.expr_uncompute.specs.Code.{compare_cells, compare_all, apart_cells, both_apart_cells}
@@ -70,19 +70,19 @@ module _ (spot : List ℕ → Spot) (b : Bases) (low : ℕ) where
     here = mem b f (keeping v p q) zs
 
     abbrev word : Spot → ℕ
-    word x = slice_index zs (address_of b x)
+    word x = slice_index zs (spot_address b x)
 
     -- ---- two words
 
     abbrev compared : (x y : Spot) → Memory
     compared x y = mem (moved b y) f (record (keeping v p q)
-        { a = slice_index zs (address_of b x); content = slice_index zs (address_of b y) })
-        (slice_set zs (address_of b y) 0)
+        { a = slice_index zs (spot_address b x); content = slice_index zs (spot_address b y) })
+        (slice_set zs (spot_address b y) 0)
 
-    both_there : (x y : Spot) → address_of b x < length zs → address_of b y < length zs
+    both_there : (x y : Spot) → spot_address b x < length zs → spot_address b y < length zs
         → Goes (copy_cells x LEFT ++ reach_cells y) 7 (mem b f (keeping v p q) zs) (compared x y)
     both_there x y h k =
-        let u : ℕ = slice_index zs (address_of b x) in
+        let u : ℕ = slice_index zs (spot_address b x) in
         goes_seq (copy_goes b zs x h small refl (left_takes b f (keeping v p q) u))
         (reach_goes b f (record (keeping v p q) { a = u }) zs y k small)
 
@@ -92,40 +92,40 @@ module _ (spot : List ℕ → Spot) (b : Bases) (low : ℕ) where
     same_words : (x y : ℕ) → nat_eq x y ≡ true → x ≡ y
     same_words x y e = grind (arith, nat_tests)
 
-    compare_goes : (x y : Spot) → address_of b x < length zs → address_of b y < length zs
-        → nat_eq (slice_index zs (address_of b x)) (slice_index zs (address_of b y)) ≡ false
+    compare_goes : (x y : Spot) → spot_address b x < length zs → spot_address b y < length zs
+        → nat_eq (slice_index zs (spot_address b x)) (slice_index zs (spot_address b y)) ≡ false
         → Goes (compare_cells x y) 16 (mem b f (keeping v p q) zs) (mem b f (keeping v p q) zs)
     compare_goes x y h k e = goes_around (both_there x y h k)
         (goes_check (Differ LEFT CONTENT) SHARED_ARRAY _ (other_words (word x) (word y) e)) (both_there x y h k)
 
-    compare_traps : (x y : Spot) → address_of b x < length zs → address_of b y < length zs
-        → nat_eq (slice_index zs (address_of b x)) (slice_index zs (address_of b y)) ≡ true
+    compare_traps : (x y : Spot) → spot_address b x < length zs → spot_address b y < length zs
+        → nat_eq (slice_index zs (spot_address b x)) (slice_index zs (spot_address b y)) ≡ true
         → Traps (compare_cells x y) 8 16 (mem b f (keeping v p q) zs)
     compare_traps x y h k e = traps_mid (both_there x y h k)
         (traps_check (Differ LEFT CONTENT) SHARED_ARRAY _ (same_words (word x) (word y) e))
 
     -- ---- all elements that an expression reads
 
-    module _ (x : Spot) (there : address_of b x < length zs) where
-      all_go : (e : Expression) → Sees spot b low zs e → reads_array spot b zs (slice_index zs (address_of b x)) e
+    module _ (x : Spot) (there : spot_address b x < length zs) where
+      all_go : (e : Expression) → Sees spot b low zs e → reads_array spot b zs (slice_index zs (spot_address b x)) e
           ≡ false → Goes (compare_all spot x e) (compare_steps e) (mem b f (keeping v p q) zs)
           (mem b f (keeping v p q) zs)
       all_go (Number at word) s h = nothing _
       all_go (Null at) s h = nothing _
       all_go (Variable name) s h = nothing _
       all_go (Element name index) s h =
-          let n = neither (nat_eq (slice_index zs (address_of b x)) (word_of spot b zs name.text)) _ h in
+          let n = neither (nat_eq (slice_index zs (spot_address b x)) (word_of spot b zs name.text)) _ h in
           let l = s.0 in
           goes_seq (compare_goes x (spot name.text) there (omega arith) n.0) (all_go index s.2 n.1)
       all_go (Binary at op left right) s h =
-          let n = neither (reads_array spot b zs (slice_index zs (address_of b x)) left) _ h in
+          let n = neither (reads_array spot b zs (slice_index zs (spot_address b x)) left) _ h in
           goes_seq (all_go left s.0 n.0) (all_go right s.1 n.1)
 
       -- the first decides, or the rest
-      element_by : (y : Spot) (rest : Expression) → address_of b y < length zs → (t : Bool)
-          → nat_eq (slice_index zs (address_of b x)) (slice_index zs (address_of b y)) ≡ t
-          → (t || reads_array spot b zs (slice_index zs (address_of b x)) rest) ≡ true
-          → (reads_array spot b zs (slice_index zs (address_of b x)) rest ≡ true
+      element_by : (y : Spot) (rest : Expression) → spot_address b y < length zs → (t : Bool)
+          → nat_eq (slice_index zs (spot_address b x)) (slice_index zs (spot_address b y)) ≡ t
+          → (t || reads_array spot b zs (slice_index zs (spot_address b x)) rest) ≡ true
+          → (reads_array spot b zs (slice_index zs (spot_address b x)) rest ≡ true
           → Traps (compare_all spot x rest) (compare_steps rest) 16 (mem b f (keeping v p q) zs))
           → Traps (compare_cells x y ++ compare_all spot x rest) (16 + compare_steps rest) 16
           (mem b f (keeping v p q) zs)
@@ -134,28 +134,28 @@ module _ (spot : List ℕ → Spot) (b : Bases) (low : ℕ) where
       element_by y rest k false e h r = traps_then (compare_goes x y there k e) (r h)
 
       sides_by : (left right : Expression) → Sees spot b low zs left → (t : Bool)
-          → reads_array spot b zs (slice_index zs (address_of b x)) left ≡ t
-          → (t || reads_array spot b zs (slice_index zs (address_of b x)) right) ≡ true
-          → (reads_array spot b zs (slice_index zs (address_of b x)) left ≡ true
+          → reads_array spot b zs (slice_index zs (spot_address b x)) left ≡ t
+          → (t || reads_array spot b zs (slice_index zs (spot_address b x)) right) ≡ true
+          → (reads_array spot b zs (slice_index zs (spot_address b x)) left ≡ true
           → Traps (compare_all spot x left) (compare_steps left) 16 (mem b f (keeping v p q) zs))
-          → (reads_array spot b zs (slice_index zs (address_of b x)) right ≡ true
+          → (reads_array spot b zs (slice_index zs (spot_address b x)) right ≡ true
           → Traps (compare_all spot x right) (compare_steps right) 16 (mem b f (keeping v p q) zs))
           → Traps (compare_all spot x left ++ compare_all spot x right) (compare_steps left + compare_steps right) 16
           (mem b f (keeping v p q) zs)
       sides_by left right s true e h l r = traps_more (omega arith) (traps_first (compare_all spot x right) (l e))
       sides_by left right s false e h l r = traps_then (all_go left s e) (r h)
 
-      all_trap : (e : Expression) → Sees spot b low zs e → reads_array spot b zs (slice_index zs (address_of b x)) e
+      all_trap : (e : Expression) → Sees spot b low zs e → reads_array spot b zs (slice_index zs (spot_address b x)) e
           ≡ true → Traps (compare_all spot x e) (compare_steps e) 16 (mem b f (keeping v p q) zs)
       all_trap (Number at word) s h = absurd (cc)
       all_trap (Null at) s h = absurd (cc)
       all_trap (Variable name) s h = absurd (cc)
       all_trap (Element name index) s h =
           let l = s.0 in
-          element_by (spot name.text) index (omega arith) (nat_eq (slice_index zs (address_of b x))
+          element_by (spot name.text) index (omega arith) (nat_eq (slice_index zs (spot_address b x))
           (word_of spot b zs name.text)) refl h (λ r. all_trap index s.2 r)
       all_trap (Binary at op left right) s h =
-          sides_by left right s.0 (reads_array spot b zs (slice_index zs (address_of b x)) left) refl h
+          sides_by left right s.0 (reads_array spot b zs (slice_index zs (spot_address b x)) left) refl h
           (λ l. all_trap left s.0 l) (λ r. all_trap right s.1 r)
 
     -- ---- the check of a place

@@ -14,8 +14,8 @@ use Rattle.register_expressions.specs.roopl_semantics.Operators.{updated}
 use Rattle.register_expressions.specs.refine_form.declared.spot.Spot.{Spot}
 use Rattle.register_expressions.specs.code_scope.Visible.{offset_of}
 use Rattle.register_expressions.specs.Code.{around, addi, exch, base_of, reach_cells}
-use Rattle.expr_uncompute.specs.Code.{update_cell, number_cell, onward, both_reached}
-use Rattle.register_expressions.specs.Number.{Bases, address_of}
+use Rattle.expr_uncompute.specs.Code.{update_cell, number_cell, onward_cell, both_reached}
+use Rattle.register_expressions.specs.Number.{Bases, spot_address}
 use Rattle.register_expressions.proofs.Goes.{Goes, goes_seq, goes_cons, goes_to, goes_around, goes_xor, goes_add}
 use Rattle.register_expressions.proofs.Goes.{goes_sub, goes_addi_word}
 use Rattle.register_expressions.proofs.Numbers.{AllWords, words_set}
@@ -90,38 +90,38 @@ module _ (b : Bases) (f : ℕ → ℕ) where
   alter_by update.Xor x word h k c zs = goes_xor _ (λ z. mem c f (record (keeping 0 0 0) { content = z }) zs) x word
       refl k (λ z. refl) (λ z. refl)
 
-  pub number_goes : (op : UpdateOp) (sp : Spot) (word : ℕ) (zs : List ℕ) → AllWords zs → address_of b sp < length zs
+  pub number_goes : (op : UpdateOp) (sp : Spot) (word : ℕ) (zs : List ℕ) → AllWords zs → spot_address b sp < length zs
       → length zs ≤ 2 ^ 31 → word < 2 ^ 32 → Goes (around (reach_cells sp) (number_cell op CONTENT word ∷ [])) 5
-      (mem b f (keeping 0 0 0) zs) (mem b f (keeping 0 0 0) (slice_set zs (address_of b sp)
-      (updated op (slice_index zs (address_of b sp)) word)))
+      (mem b f (keeping 0 0 0) zs) (mem b f (keeping 0 0 0) (slice_set zs (spot_address b sp)
+      (updated op (slice_index zs (spot_address b sp)) word)))
   number_goes op sp word zs w h small k =
-      let x : ℕ = slice_index zs (address_of b sp) in
+      let x : ℕ = slice_index zs (spot_address b sp) in
       changed_goes b x (updated op x word) f (keeping 0 0 0) zs sp h small refl
-      (alter_by op x word (w (address_of b sp)) k)
+      (alter_by op x word (w (spot_address b sp)) k)
 
   -- ---- by a variable
 
-  take_goes : (zs : List ℕ) (x : Spot) → address_of b x < length zs → length zs ≤ 2 ^ 31
+  take_goes : (zs : List ℕ) (x : Spot) → spot_address b x < length zs → length zs ≤ 2 ^ 31
       → Goes (addi (base_of x) (offset_of x) ∷ exch AMOUNT (base_of x) ∷ []) 2 (mem b f (keeping 0 0 0) zs)
-      (mem (moved b x) f (keeping (slice_index zs (address_of b x)) 0 0) (slice_set zs (address_of b x) 0))
+      (mem (moved b x) f (keeping (slice_index zs (spot_address b x)) 0 0) (slice_set zs (spot_address b x) 0))
   take_goes zs x h k = goes_cons (there_goes b f (keeping 0 0 0) zs x (omega arith))
-      (exchanged f (amount_out f) (moved b x) x (address_of b x) (stands_there b x) 0 zs h)
+      (exchanged f (amount_out f) (moved b x) x (spot_address b x) (stands_there b x) 0 zs h)
 
-  onward_goes : (v : ℕ) (zs : List ℕ) (x y : Spot) → address_of b x < 2 ^ 32 → address_of b y < length zs
-      → length zs ≤ 2 ^ 31 → Goes (onward x y ∷ exch CONTENT (base_of y) ∷ []) 2
+  onward_goes : (v : ℕ) (zs : List ℕ) (x y : Spot) → spot_address b x < 2 ^ 32 → spot_address b y < length zs
+      → length zs ≤ 2 ^ 31 → Goes (onward_cell x y ∷ exch CONTENT (base_of y) ∷ []) 2
       (mem (moved b x) f (keeping v 0 0) zs)
-      (mem (onto b x y) f (record (keeping v 0 0) { content = slice_index zs (address_of b y) })
-      (slice_set zs (address_of b y) 0))
+      (mem (onto b x y) f (record (keeping v 0 0) { content = slice_index zs (spot_address b y) })
+      (slice_set zs (spot_address b y) 0))
   onward_goes v zs x y l h k = goes_cons (on_goes b f (keeping v 0 0) zs x y l (omega arith))
-      (exchanged f (content_out f v) (onto b x y) y (address_of b y) (stands_on b x y) 0 zs h)
+      (exchanged f (content_out f v) (onto b x y) y (spot_address b y) (stands_on b x y) 0 zs h)
 
-  both_there : (zs : List ℕ) (x y : Spot) → address_of b x < length zs → address_of b y < length zs
+  both_there : (zs : List ℕ) (x y : Spot) → spot_address b x < length zs → spot_address b y < length zs
       → length zs ≤ 2 ^ 31 → Goes (both_reached x y) 4 (mem b f (keeping 0 0 0) zs)
-      (mem (onto b x y) f (record (keeping (slice_index zs (address_of b x)) 0 0)
-      { content = slice_index (slice_set zs (address_of b x) 0) (address_of b y) })
-      (slice_set (slice_set zs (address_of b x) 0) (address_of b y) 0))
+      (mem (onto b x y) f (record (keeping (slice_index zs (spot_address b x)) 0 0)
+      { content = slice_index (slice_set zs (spot_address b x) 0) (spot_address b y) })
+      (slice_set (slice_set zs (spot_address b x) 0) (spot_address b y) 0))
   both_there zs x y h k small =
-      let p : ℕ = address_of b x in
+      let p : ℕ = spot_address b x in
       goes_seq (take_goes zs x h small) (onward_goes (slice_index zs p) (slice_set zs p 0) x y (omega arith)
       (rw (length-set zs p 0) k) (rw (length-set zs p 0) small))
 
@@ -135,16 +135,16 @@ module _ (b : Bases) (f : ℕ → ℕ) where
   alter update.Xor c u v ws h k = goes_xor _ (λ z. mem c f (record (keeping v 0 0) { content = z }) ws) u v refl
       (omega arith) (λ z. refl) (λ z. refl)
 
-  pub variable_goes : (op : UpdateOp) (x y : Spot) (zs : List ℕ) → AllWords zs → address_of b x < length zs
-      → address_of b y < length zs → length zs ≤ 2 ^ 31 → slice_index (slice_set zs (address_of b y)
-      (updated op (slice_index zs (address_of b y)) (slice_index zs (address_of b x)))) (address_of b x)
-      ≡ slice_index zs (address_of b x)
+  pub variable_goes : (op : UpdateOp) (x y : Spot) (zs : List ℕ) → AllWords zs → spot_address b x < length zs
+      → spot_address b y < length zs → length zs ≤ 2 ^ 31 → slice_index (slice_set zs (spot_address b y)
+      (updated op (slice_index zs (spot_address b y)) (slice_index zs (spot_address b x)))) (spot_address b x)
+      ≡ slice_index zs (spot_address b x)
       → Goes (around (both_reached x y) (update_cell op CONTENT AMOUNT ∷ [])) 9 (mem b f (keeping 0 0 0) zs)
-      (mem b f (keeping 0 0 0) (slice_set zs (address_of b y)
-      (updated op (slice_index zs (address_of b y)) (slice_index zs (address_of b x)))))
+      (mem b f (keeping 0 0 0) (slice_set zs (spot_address b y)
+      (updated op (slice_index zs (spot_address b y)) (slice_index zs (spot_address b x)))))
   variable_goes op x y zs w h k small kept =
-      let p : ℕ = address_of b x in
-      let a : ℕ = address_of b y in
+      let p : ℕ = spot_address b x in
+      let a : ℕ = spot_address b y in
       let v : ℕ = slice_index zs p in
       let u : ℕ = slice_index (slice_set zs p 0) a in
       let new : ℕ = updated op (slice_index zs a) v in

@@ -13,7 +13,7 @@ use Rattle.register_expressions.specs.roopl_semantics.Value.{element_cell, eleme
 use Rattle.register_expressions.specs.roopl_semantics.Value.{combined as combined_values}
 use Rattle.register_expressions.specs.refine_form.declared.spot.Spot.{Spot}
 use Rattle.register_expressions.specs.Number.{Bases, word_of, number, place_address, element_address, element_at}
-use Rattle.register_expressions.specs.Number.{word_in, combined}
+use Rattle.register_expressions.specs.Number.{word_in, combined_words}
 use Rattle.expr_uncompute.specs.Means.{is_equation, shown, shown_result, cell_result, AreOperands, words, compared}
 use Rattle.expr_uncompute.specs.Means.{OperandsOf, IsInt, StandsArray, Means, MeansPlace}
 use Rattle.register_expressions.proofs.Numbers.{element_nil, element_inside, element_past}
@@ -51,7 +51,7 @@ module _ (address slot : ℕ → ℕ) where
       (shown address slot r) e (same_test _ _ _ _ f g))
 
   same_combined : (o : BinOp) (x y : Result Value ℕ) → OperandsOf address slot o x y
-      → combined o (shown_result address slot x) (shown_result address slot y)
+      → combined_words o (shown_result address slot x) (shown_result address slot y)
       ≡ shown_result address slot (combined_values o x y)
   same_combined o (Err f) y h = refl
   same_combined o (Ok l) (Err f) h = refl
@@ -135,8 +135,8 @@ module _ (address slot : ℕ → ℕ) where
         h.1 h.2 name.text refl)
         ∙ word_in_is (value program st index) name.text h.1
     number_is (Binary at o left right) h =
-        ap (λ z. combined o z (number spot b cells right)) (number_is left h.0)
-        ∙ ap (combined o (shown_result address slot (value program st left))) (number_is right h.1)
+        ap (λ z. combined_words o z (number spot b cells right)) (number_is left h.0)
+        ∙ ap (combined_words o (shown_result address slot (value program st left))) (number_is right h.1)
         ∙ same_combined o (value program st left) (value program st right) h.2
 
     -- the address of a place is that of its cell

@@ -12,7 +12,7 @@ use Rattle.register_expressions.specs.refine_form.declared.spot.Spot.{Spot}
 use Rattle.register_expressions.specs.refine_form.declared.spot.Spot.TheVariants.{Frame}
 use Rattle.register_expressions.specs.Code.{words, around, store_cells, operator_result}
 use Rattle.expr_uncompute.specs.Code.{open_cells}
-use Rattle.register_expressions.specs.Number.{Bases, given, word_of, number, element_at, Sees}
+use Rattle.register_expressions.specs.Number.{Bases, word_given, word_of, number, element_at, Sees}
 use Rattle.register_expressions.specs.Steps.{around_steps}
 use Rattle.expr_uncompute.specs.Steps.{open_steps}
 use Rattle.register_expressions.proofs.Goes.{Goes, goes_to, goes_around}
@@ -36,7 +36,7 @@ module _ (spot : List ℕ → Spot) (free : ℕ) (b : Bases) where
   abbrev low : ℕ
   low = b.frame + free
 
-  given_ok : (r : Result ℕ ℕ) (x : ℕ) → r ≡ Ok x → r ≡ Ok (given r)
+  given_ok : (r : Result ℕ ℕ) (x : ℕ) → r ≡ Ok x → r ≡ Ok (word_given r)
   given_ok (Ok y) x e = refl
   given_ok (Err c) x e = absurd (cc)
 
@@ -46,7 +46,7 @@ module _ (spot : List ℕ → Spot) (free : ℕ) (b : Bases) where
   place_low name index v zs s e =
       let a = address_of_word zs (element_at zs (word_of spot b zs name.text) (number spot b zs index)) v e in
       let n = inside_of zs (word_of spot b zs name.text) (number spot b zs index) a.0 a.1 in
-      let same : n.x ≡ given (number spot b zs index) = ok_is (sym n.index ∙ given_ok _ n.x n.index) in
+      let same : n.x ≡ word_given (number spot b zs index) = ok_is (sym n.index ∙ given_ok _ n.x n.index) in
       let block = s.1.room n.array_is in
       let below = n.below in
       omega arith
@@ -68,13 +68,13 @@ module _ (spot : List ℕ → Spot) (free : ℕ) (b : Bases) where
     }
 
     value_after : (e : Expression) → Sees spot b low zs e
-        → given (number spot b (slice_set zs (home spot free b i) v) e) ≡ given (number spot b zs e)
-    value_after e s = ap given (number_same spot b low zs _ agrees e s)
+        → word_given (number spot b (slice_set zs (home spot free b i) v) e) ≡ word_given (number spot b zs e)
+    value_after e s = ap word_given (number_same spot b low zs _ agrees e s)
 
     part_reads : (d : Expression) (j : ℕ) → i < j → Sees spot b low zs d
-        → Reads spot free b zs d j (given (number spot b zs d))
+        → Reads spot free b zs d j (word_given (number spot b zs d))
         → Reads spot free b (slice_set zs (home spot free b i) v) d j
-        (given (number spot b (slice_set zs (home spot free b i) v) d))
+        (word_given (number spot b (slice_set zs (home spot free b i) v) d))
     part_reads d j l s r =
         subst (Reads spot free b (slice_set zs (home spot free b i) v) d j) (sym (value_after d s))
         (reads_same spot free b d j _ zs _ s agrees (λ a lo hi. away a (λ e. omega arith)) r)
@@ -103,8 +103,8 @@ module _ (spot : List ℕ → Spot) (free : ℕ) (b : Bases) where
         let last = open_goes spot free b m p q f whole i v zs2 (words_set zs (home spot free b i) v w vw) s2
         (room_after whole r) parts2 (number_same spot b low zs zs2 agrees whole s ∙ e) in
         let same : opened spot free b m p q zs2 whole ≡ opened spot free b m p q zs whole =
-        ap (λ x. operated_scratch m p q o x (given (number spot b zs2 right))) (value_after left s.0)
-        ∙ ap (operated_scratch m p q o (given (number spot b zs left))) (value_after right s.1) in
+        ap (λ x. operated_scratch m p q o x (word_given (number spot b zs2 right))) (value_after left s.0)
+        ∙ ap (operated_scratch m p q o (word_given (number spot b zs left))) (value_after right s.1) in
         goes_around first store (goes_to refl refl (ap (λ t. mem b f t zs2) same) last)
 
     pub element_node : (name : Ident) (index : Expression) → Sees spot b low zs (Element name index)
@@ -135,13 +135,13 @@ module _ (spot : List ℕ → Spot) (free : ℕ) (b : Bases) where
         (number_same spot b low zs zs2 agrees whole s ∙ e) in
         let arr : word_of spot b zs2 name.text ≡ word_of spot b zs name.text = agrees _ s.0 in
         let pl2 : element_place spot free b zs2 name.text index ≡ pl =
-        ap (λ y. y + given (number spot b zs2 index) + HEADER_WORDS) arr
+        ap (λ y. y + word_given (number spot b zs2 index) + HEADER_WORDS) arr
         ∙ ap (λ x. word_of spot b zs name.text + x + HEADER_WORDS) (value_after index s.2) in
         let same : opened spot free b m p q zs2 whole ≡ opened spot free b m p q zs whole =
         ap (λ x. record (operands m p q x (element_place spot free b zs2 name.text index))
         { item = slice_index zs2 (element_place spot free b zs2 name.text index) }) (value_after index s.2)
-        ∙ ap (λ y. record (operands m p q (given (number spot b zs index)) y) { item = slice_index zs2 y }) pl2
-        ∙ ap (λ y. record (operands m p q (given (number spot b zs index)) pl) { item = y }) (agrees pl below) in
+        ∙ ap (λ y. record (operands m p q (word_given (number spot b zs index)) y) { item = slice_index zs2 y }) pl2
+        ∙ ap (λ y. record (operands m p q (word_given (number spot b zs index)) pl) { item = y }) (agrees pl below) in
         let cells : slice_set zs2 (element_place spot free b zs2 name.text index) 0
         ≡ slice_set zs1 (home spot free b i) v = ap (λ y. slice_set zs2 y 0) pl2
         ∙ set_comm zs (home spot free b i) pl v 0 n in

@@ -3,7 +3,7 @@ use Rattle.std.proofs.Common.{◌≡◌, ◌≢◌, ℕ, ◌+◌, ◌^◌, ◌<�
 use Rattle.std.specs.Prelude.{slice_index, slice_set, Result, Ok, Err}
 use Rattle.register_expressions.specs.code_conventions.declared.memory.TheConstants.{HEADER_WORDS}
 use Rattle.rpp_tree.specs.Tree.{Expression, Number, Null, Variable, Element, Binary}
-use Rattle.register_expressions.specs.paired_code.Machine.{reg}
+use Rattle.register_expressions.specs.paired_code.Machine.{memory_reg}
 use Rattle.register_expressions.specs.roopl_semantics.Operators.{operated}
 use Rattle.register_expressions.specs.refine_form.declared.spot.Spot.{Spot}
 use Rattle.register_expressions.specs.refine_form.declared.spot.Spot.TheVariants.{Frame}
@@ -11,7 +11,7 @@ use Rattle.register_expressions.specs.Code.{words}
 use Rattle.expr_uncompute.specs.Code.{operand_cells, checked_cells}
 use Rattle.register_expressions.specs.Code.{point_cells, exch}
 use Rattle.expr_uncompute.specs.Code.{open_cells, result_of}
-use Rattle.register_expressions.specs.Number.{Bases, address_of, given, word_of, number, element_at, IsArray, Sees}
+use Rattle.register_expressions.specs.Number.{Bases, spot_address, word_given, word_of, number, element_at, IsArray, Sees}
 use Rattle.expr_uncompute.specs.Steps.{operand_steps, checked_steps, open_steps}
 use Rattle.register_expressions.proofs.Goes.{Goes, Traps, nothing, goes_seq, goes_to, goes_set, goes_exch, traps_first}
 use Rattle.register_expressions.proofs.Goes.{traps_then, traps_more}
@@ -55,7 +55,7 @@ module _ (spot : List ℕ → Spot) (free : ℕ) (b : Bases) where
 
   -- an element's index and array in their registers, both checked
   module _ (m p q : ℕ) (f : ℕ → ℕ) (name : List ℕ) (index : Expression) (i x : ℕ) (zs : List ℕ) (all : AllWords zs)
-      (at_name : address_of b (spot name) < low) (array : IsArray spot b low zs (word_of spot b zs name))
+      (at_name : spot_address b (spot name) < low) (array : IsArray spot b low zs (word_of spot b zs name))
       (sees : Sees spot b low zs index) (room : Room index i zs) (gives : number spot b zs index ≡ Ok x)
       (reads : Reads spot free b zs index i x) where
     abbrev array_at : ℕ
@@ -113,15 +113,15 @@ module _ (spot : List ℕ → Spot) (free : ℕ) (b : Bases) where
 
   -- the parts of a node are prepared
   abbrev pub Parted : List ℕ → Expression → (i : ℕ) → Type 0
-  Parted zs (Element name index) i = Reads spot free b zs index (i + 1) (given (number spot b zs index))
+  Parted zs (Element name index) i = Reads spot free b zs index (i + 1) (word_given (number spot b zs index))
   Parted zs (Binary at op left right) i =
-      Reads spot free b zs left (i + 1) (given (number spot b zs left))
-      × Reads spot free b zs right (i + 1 + words left) (given (number spot b zs right))
+      Reads spot free b zs left (i + 1) (word_given (number spot b zs left))
+      × Reads spot free b zs right (i + 1 + words left) (word_given (number spot b zs right))
   Parted zs e i = Unit {0}
 
   -- the address of an element, if it has one
   abbrev pub element_place : List ℕ → List ℕ → Expression → ℕ
-  element_place zs name index = word_of spot b zs name + given (number spot b zs index) + HEADER_WORDS
+  element_place zs name index = word_of spot b zs name + word_given (number spot b zs index) + HEADER_WORDS
 
   -- the bases while a node is open
   abbrev pub based : Expression → Bases
@@ -130,7 +130,7 @@ module _ (spot : List ℕ → Spot) (free : ℕ) (b : Bases) where
 
   -- the cells
   abbrev pub emptied : Expression → List ℕ → List ℕ
-  emptied (Variable name) zs = slice_set zs (address_of b (spot name.text)) 0
+  emptied (Variable name) zs = slice_set zs (spot_address b (spot name.text)) 0
   emptied (Element name index) zs = slice_set zs (element_place zs name.text index) 0
   emptied _ zs = zs
 
@@ -141,13 +141,13 @@ module _ (spot : List ℕ → Spot) (free : ℕ) (b : Bases) where
     opened zs (Null at) = keeping m p q
     opened zs (Variable name) = record (keeping m p q) { content = word_of spot b zs name.text }
     opened zs (Element name index) =
-        record (operands m p q (given (number spot b zs index)) (element_place zs name.text index))
+        record (operands m p q (word_given (number spot b zs index)) (element_place zs name.text index))
         { item = slice_index zs (element_place zs name.text index) }
-    opened zs (Binary at op left right) = operated_scratch m p q op (given (number spot b zs left))
-        (given (number spot b zs right))
+    opened zs (Binary at op left right) = operated_scratch m p q op (word_given (number spot b zs left))
+        (word_given (number spot b zs right))
 
     module _ (f : ℕ → ℕ) where
-      given_ok : (r : Result ℕ ℕ) (x : ℕ) → r ≡ Ok x → r ≡ Ok (given r)
+      given_ok : (r : Result ℕ ℕ) (x : ℕ) → r ≡ Ok x → r ≡ Ok (word_given r)
       given_ok (Ok y) x e = refl
       given_ok (Err c) x e = absurd (cc)
 
@@ -163,7 +163,7 @@ module _ (spot : List ℕ → Spot) (free : ℕ) (b : Bases) where
       open_goes (Element name index) i v zs w s r k e =
           let a = address_of_word zs (element_at zs (word_of spot b zs name.text) (number spot b zs index)) v e in
           let n = inside_of zs (word_of spot b zs name.text) (number spot b zs index) a.0 a.1 in
-          let x : ℕ = given (number spot b zs index) in
+          let x : ℕ = word_given (number spot b zs index) in
           let g : number spot b zs index ≡ Ok x = given_ok _ n.x n.index in
           let same : n.x ≡ x = ok_is (sym n.index ∙ g) in
           let l : x < slice_index zs (word_of spot b zs name.text) =
@@ -180,8 +180,8 @@ module _ (spot : List ℕ → Spot) (free : ℕ) (b : Bases) where
           (λ z zs'. refl)))
       open_goes (Binary at o left right) i v zs w s r k e =
           let n = both_ok o (number spot b zs left) (number spot b zs right) v e in
-          let x : ℕ = given (number spot b zs left) in
-          let y : ℕ = given (number spot b zs right) in
+          let x : ℕ = word_given (number spot b zs left) in
+          let y : ℕ = word_given (number spot b zs right) in
           let fits = r.fits in
           let room_left : Room left (i + 1) zs = record { fits = omega arith; small = r.small } in
           let room_right : Room right (i + 1 + words left) zs = record { fits = omega arith; small = r.small } in
@@ -201,21 +201,21 @@ module _ (spot : List ℕ → Spot) (free : ℕ) (b : Bases) where
       result_has (Binary at o left right) = operator_has o
 
       pub open_gives : (e : Expression) (v : ℕ) (zs zs' : List ℕ) → number spot b zs e ≡ Ok v
-          → reg (mem (based e) f (opened zs e) zs') (result_of e) ≡ v
+          → memory_reg (mem (based e) f (opened zs e) zs') (result_of e) ≡ v
       open_gives (Number at word) v zs zs' e = ok_is e
       open_gives (Null at) v zs zs' e = ok_is e
       open_gives (Variable name) v zs zs' e = ok_is e
       open_gives (Element name index) v zs zs' e =
           let a = address_of_word zs (element_at zs (word_of spot b zs name.text) (number spot b zs index)) v e in
           let n = inside_of zs (word_of spot b zs name.text) (number spot b zs index) a.0 a.1 in
-          let same : n.x ≡ given (number spot b zs index) = ok_is (sym n.index ∙ given_ok _ n.x n.index) in
+          let same : n.x ≡ word_given (number spot b zs index) = ok_is (sym n.index ∙ given_ok _ n.x n.index) in
           ap (slice_index zs) (ap (λ z. word_of spot b zs name.text + z + HEADER_WORDS) (sym same) ∙ n.at) ∙ a.2
       open_gives (Binary at o left right) v zs zs' e =
           let n = both_ok o (number spot b zs left) (number spot b zs right) v e in
-          let ex : n.x ≡ given (number spot b zs left) = ok_is (sym n.left ∙ given_ok _ n.x n.left) in
-          let ey : n.y ≡ given (number spot b zs right) = ok_is (sym n.right ∙ given_ok _ n.y n.right) in
-          operator_gives m p q b f zs' (given (number spot b zs left)) (given (number spot b zs right)) o
-          ∙ ap (λ z. operated o z (given (number spot b zs right))) (sym ex) ∙ ap (operated o n.x) (sym ey) ∙ n.is
+          let ex : n.x ≡ word_given (number spot b zs left) = ok_is (sym n.left ∙ given_ok _ n.x n.left) in
+          let ey : n.y ≡ word_given (number spot b zs right) = ok_is (sym n.right ∙ given_ok _ n.y n.right) in
+          operator_gives m p q b f zs' (word_given (number spot b zs left)) (word_given (number spot b zs right)) o
+          ∙ ap (λ z. operated o z (word_given (number spot b zs right))) (sym ex) ∙ ap (operated o n.x) (sym ey) ∙ n.is
 
       -- an element that is not there
       pub open_traps : (at : ℕ) (name : Rattle.rpp_tree.specs.declared.tree.Ident.Ident) (index : Expression)
@@ -231,7 +231,7 @@ module _ (spot : List ℕ → Spot) (free : ℕ) (b : Bases) where
           room = record { fits = let h = r.fits in omega arith; small = r.small }
 
           reads : Reads spot free b zs index (i + 1) x
-          reads = subst (Reads spot free b zs index (i + 1)) (ap given g) k
+          reads = subst (Reads spot free b zs index (i + 1)) (ap word_given g) k
 
           by : IsFault zs (word_of spot b zs name.text) (number spot b zs index) c
               → Traps (checked_cells spot free name.text index (i + 1)) (checked_steps index) c

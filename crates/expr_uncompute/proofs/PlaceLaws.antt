@@ -15,7 +15,7 @@ use Rattle.register_expressions.specs.Code.{xor, addi, around, base_of, point_ce
 use Rattle.expr_uncompute.specs.Code.{checked_cells, open_cells, prepare_cells, fetch_cells, place_words, place_cells}
 use Rattle.expr_uncompute.specs.Code.{result_of}
 use Rattle.register_expressions.specs.code_scope.Visible.{offset_of}
-use Rattle.register_expressions.specs.Number.{Bases, address_of, given, word_of, number, place_address, lvalue_read, Sees}
+use Rattle.register_expressions.specs.Number.{Bases, spot_address, word_given, word_of, number, place_address, lvalue_read, Sees}
 use Rattle.expr_uncompute.specs.Steps.{checked_steps, open_steps, prepare_steps, fetch_steps, place_steps}
 use Rattle.register_expressions.proofs.Goes.{Goes, Traps, goes_seq, goes_cons, goes_to, goes_around, goes_set}
 use Rattle.register_expressions.proofs.Goes.{goes_addi, traps_first, traps_then, traps_more}
@@ -49,15 +49,15 @@ module _ (spot : List ℕ → Spot) (free : ℕ) (b : Bases) where
 
   -- the address goes into a register that is 0
   pub record Points (into : ℕ) (f : ℕ → ℕ) (m p q m' p' q' a : ℕ) : Type 0 where
-    pub by_base : (zs : List ℕ) (sp : Spot) → address_of b sp ≡ a → a < 2 ^ 32
+    pub by_base : (zs : List ℕ) (sp : Spot) → spot_address b sp ≡ a → a < 2 ^ 32
         → Goes (xor into (base_of sp) ∷ addi into (offset_of sp) ∷ []) 2 (mem b f (keeping m p q) zs)
         (mem b f (keeping m' p' q') zs)
     pub by_operand : (x : ℕ) (zs : List ℕ) → Goes (xor into RIGHT ∷ []) 1 (mem b f (operands m p q x a) zs)
         (mem b f (operands m' p' q' x a) zs)
 
-  place_base : (f : ℕ → ℕ) (m q : ℕ) (zs : List ℕ) (sp : Spot) → address_of b sp < 2 ^ 32
+  place_base : (f : ℕ → ℕ) (m q : ℕ) (zs : List ℕ) (sp : Spot) → spot_address b sp < 2 ^ 32
       → Goes (xor PLACE (base_of sp) ∷ addi PLACE (offset_of sp) ∷ []) 2 (mem b f (keeping m 0 q) zs)
-      (mem b f (keeping m (address_of b sp) q) zs)
+      (mem b f (keeping m (spot_address b sp) q) zs)
   place_base f m q zs (Field i) h = goes_cons (goes_set _ (λ z. mem b f (keeping m z q) zs) b.object refl (omega arith)
       (λ z. refl) (λ z. refl)) (goes_addi _ (λ z. mem b f (keeping m z q) zs) b.object (HEADER_WORDS + i) h refl
       (omega arith)
@@ -66,9 +66,9 @@ module _ (spot : List ℕ → Spot) (free : ℕ) (b : Bases) where
       (λ z. refl) (λ z. refl)) (goes_addi _ (λ z. mem b f (keeping m z q) zs) b.frame i h refl (omega arith)
       (λ z. refl) (λ z. refl))
 
-  other_base : (f : ℕ → ℕ) (m p : ℕ) (zs : List ℕ) (sp : Spot) → address_of b sp < 2 ^ 32
+  other_base : (f : ℕ → ℕ) (m p : ℕ) (zs : List ℕ) (sp : Spot) → spot_address b sp < 2 ^ 32
       → Goes (xor OTHER_PLACE (base_of sp) ∷ addi OTHER_PLACE (offset_of sp) ∷ []) 2 (mem b f (keeping m p 0) zs)
-      (mem b f (keeping m p (address_of b sp)) zs)
+      (mem b f (keeping m p (spot_address b sp)) zs)
   other_base f m p zs (Field i) h = goes_cons (goes_set _ (λ z. mem b f (keeping m p z) zs) b.object refl (omega arith)
       (λ z. refl) (λ z. refl)) (goes_addi _ (λ z. mem b f (keeping m p z) zs) b.object (HEADER_WORDS + i) h refl
       (omega arith)
@@ -120,7 +120,7 @@ module _ (spot : List ℕ → Spot) (free : ℕ) (b : Bases) where
           small = rw (stored_length spot free b index i zs) h.small;
         };
         gives = number_same spot b low zs _ below index h.sees.2 ∙ g;
-        reads = subst (Reads spot free b (stored spot free b index i zs) index i) (ap given g)
+        reads = subst (Reads spot free b (stored spot free b index i zs) index i) (ap word_given g)
             (stored_reads spot free b index i zs h.fits);
         array = below _ h.sees.0;
       }

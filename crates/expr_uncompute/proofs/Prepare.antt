@@ -15,7 +15,7 @@ use Rattle.register_expressions.specs.Code.{words, point_cells, exch, store_cell
 use Rattle.expr_uncompute.specs.Code.{open_cells}
 use Rattle.register_expressions.specs.Code.{operator_result}
 use Rattle.expr_uncompute.specs.Code.{prepare_cells, parts_cells}
-use Rattle.register_expressions.specs.Number.{Bases, given, word_of, number, element_at, word_in, Sees}
+use Rattle.register_expressions.specs.Number.{Bases, word_given, word_of, number, element_at, word_in, Sees}
 use Rattle.expr_uncompute.specs.Steps.{open_steps, prepare_steps, parts_steps}
 use Rattle.register_expressions.proofs.Goes.{Goes, Traps, nothing, goes_seq, goes_to, traps_first, traps_then}
 use Rattle.register_expressions.proofs.Goes.{traps_more}
@@ -39,7 +39,7 @@ module _ (spot : List ℕ → Spot) (free : ℕ) (b : Bases) where
     pub empty : (a : ℕ) → home spot free b i ≤ a → a < home spot free b (i + words e) → slice_index zs a ≡ 0
 
   given_word : (zs : List ℕ) → AllWords zs → (e : Expression) → Sees spot b low zs e → (r : Result ℕ ℕ)
-      → number spot b zs e ≡ r → given r < 2 ^ 32
+      → number spot b zs e ≡ r → word_given r < 2 ^ 32
   given_word zs w e s (Ok v) q = number_word spot b low zs w e s v q
   given_word zs w e s (Err c) q = omega arith
 
@@ -105,7 +105,7 @@ module _ (spot : List ℕ → Spot) (free : ℕ) (b : Bases) where
     all = stored_words index (i + 1) zs h.all h.sees.2;
     below = stored_below spot free b index (i + 1) zs;
     parts = subst (Reads spot free b (stored spot free b index (i + 1) zs) index (i + 1))
-        (sym (ap given (number_same spot b low zs _ (stored_below spot free b index (i + 1) zs) index h.sees.2)))
+        (sym (ap word_given (number_same spot b low zs _ (stored_below spot free b index (i + 1) zs) index h.sees.2)))
         (stored_reads spot free b index (i + 1) zs (let l = h.room.fits in omega arith));
     count = stored_length spot free b index (i + 1) zs;
     own = stored_other spot free b index (i + 1) zs (home spot free b i) (inl (omega arith));
@@ -120,19 +120,19 @@ module _ (spot : List ℕ → Spot) (free : ℕ) (b : Bases) where
       let below : Agree low zs zs2 = λ a l. b2 a l ∙ b1 a l in
       let fits = h.room.fits in
       let s1 = sees_same spot b low zs zs1 b1 left h.sees.0 in
-      let left_reads : Reads spot free b zs2 left (i + 1) (given (number spot b zs left)) =
+      let left_reads : Reads spot free b zs2 left (i + 1) (word_given (number spot b zs left)) =
       reads_same spot free b left (i + 1) _ zs1 zs2 s1 b2
       (λ a lo hi. stored_other spot free b right j zs1 a (inl (omega arith)))
       (stored_reads spot free b left (i + 1) zs (omega arith)) in
-      let right_reads : Reads spot free b zs2 right j (given (number spot b zs1 right)) =
+      let right_reads : Reads spot free b zs2 right j (word_given (number spot b zs1 right)) =
       stored_reads spot free b right j zs1 r.room.fits in
       record {
         all = stored_words right j zs1 r.all r.sees;
         below = below;
         parts = (
-          subst (Reads spot free b zs2 left (i + 1)) (sym (ap given
+          subst (Reads spot free b zs2 left (i + 1)) (sym (ap word_given
               (number_same spot b low zs zs2 below left h.sees.0))) left_reads,
-          subst (Reads spot free b zs2 right j) (sym (ap given (number_same spot b low zs1 zs2 b2 right r.sees)))
+          subst (Reads spot free b zs2 right j) (sym (ap word_given (number_same spot b low zs1 zs2 b2 right r.sees)))
               right_reads,
         );
         count = stored_length spot free b right j zs1 ∙ stored_length spot free b left (i + 1) zs;
@@ -172,7 +172,7 @@ module _ (spot : List ℕ → Spot) (free : ℕ) (b : Bases) where
         let node = element_node spot free b m p q f i v (parted spot free b whole i zs) d.all vw name index
         (parted_sees whole i zs h) (parted_room whole i zs h) d.parts (parted_number whole i zs h ∙ n) zero in
         goes_to refl refl (ap (λ z. mem b f (keeping m p q)
-        (slice_set (parted spot free b whole i zs) (home spot free b i) (given z))) (sym n))
+        (slice_set (parted spot free b whole i zs) (home spot free b i) (word_given z))) (sym n))
         (goes_seq (prepare_goes index (i + 1) g.x zs (part_index name index i zs h) g.index) node)
     prepare_goes (Binary at o left right) i v zs h n =
         let whole : Expression = Binary at o left right in
@@ -187,7 +187,7 @@ module _ (spot : List ℕ → Spot) (free : ℕ) (b : Bases) where
         let right_is = number_same spot b low zs (stored spot free b left (i + 1) zs)
         (stored_below spot free b left (i + 1) zs) right h.sees.1 ∙ g.right in
         goes_to refl refl (ap (λ z. mem b f (keeping m p q)
-        (slice_set (parted spot free b whole i zs) (home spot free b i) (given z))) (sym n))
+        (slice_set (parted spot free b whole i zs) (home spot free b i) (word_given z))) (sym n))
         (goes_seq (goes_seq (prepare_goes left (i + 1) g.x zs (part_left at o left right i zs h) g.left)
         (prepare_goes right (i + 1 + words left) g.y (stored spot free b left (i + 1) zs)
         (part_right at o left right i zs h) right_is)) node)

@@ -20,15 +20,15 @@ use Rattle.register_expressions.specs.Number.{swap_shares, Sees, Same, SamePlace
 use Rattle.expr_uncompute.specs.Steps.{value_steps, test_steps, place_steps, fetch_steps, apart_steps, both_apart_steps}
 use Rattle.expr_uncompute.specs.Steps.{update_steps, swap_steps}
 use Rattle.register_expressions.specs.Laws.{bases_of, Ready, Xored, truth_of}
-use Rattle.expr_uncompute.specs.Laws.{turned, updated_at, swapped_at, Stays, BothStay}
-use Rattle.expr_uncompute.specs.Promises.{free_at, SeesIn, ValueLaw, TestLaw, UpdateLaw, SwapLaw, CanRun, IsTrap}
+use Rattle.expr_uncompute.specs.Laws.{turned_operator, updated_at, swapped_at, UpdateStays, BothStay}
+use Rattle.expr_uncompute.specs.Promises.{free_at, SeesIn, ExpressionLaw, ConditionLaw, UpdateLaw, SwapLaw, CanEvaluate, IsTrap}
 use Rattle.expr_uncompute.specs.Means.{shown, shown_result, cell_address, cell_result, Means, MeansPlace, SameValues}
 use Rattle.expr_uncompute.specs.Means.{SameCells}
 use Rattle.expr_uncompute.proofs.Meaning.{number_is, place_is}
 
 module _ (address slot : ℕ → ℕ) (program : Source) (spot : List ℕ → Spot) (free : ℕ) where
   -- a value
-  pub source_value : (into : ℕ) (e : Expression) (p : List Symbol) → ValueLaw spot free into e p
+  pub source_value : (into : ℕ) (e : Expression) (p : List Symbol) → ExpressionLaw spot free into e p
       → (im : Image) (d : Bool) (m : Memory) (st : State) → Ready free (words e) m → SeesIn spot free m e
       → Means address slot program st spot (bases_of m) m.cells e
       → Xored into (value_steps e) m (shown_result address slot (value program st e)) im p d
@@ -37,7 +37,7 @@ module _ (address slot : ℕ → ℕ) (program : Source) (spot : List ℕ → Sp
       h) (law.xors im d m r s)
 
   -- a condition
-  pub source_test : (into : ℕ) (e : Expression) (p : List Symbol) → TestLaw spot free into e p
+  pub source_test : (into : ℕ) (e : Expression) (p : List Symbol) → ConditionLaw spot free into e p
       → (im : Image) (d : Bool) (m : Memory) (st : State) → Ready free (words e) m → SeesIn spot free m e
       → Means address slot program st spot (bases_of m) m.cells e
       → Xored into (test_steps e) m (truth_of (shown_result address slot (value program st e))) im p d
@@ -81,7 +81,7 @@ module _ (address slot : ℕ → ℕ) (program : Source) (spot : List ℕ → Sp
 
   -- what holds for a state and its memory, and for the state after the write and its memory
   pub record Updating (target : Lvalue) (e : Expression) (m : Memory) (st st' : State) (cells' : List ℕ) : Type 0 where
-    pub can : CanRun spot free (place_words target + words e) (lvalue_read target) e m
+    pub can : CanEvaluate spot free (place_words target + words e) (lvalue_read target) e m
     pub place_means : MeansPlace address slot program st spot (bases_of m) m.cells target
     pub value_means : Means address slot program st spot (bases_of m) m.cells e
     pub place_means_after : MeansPlace address slot program st' spot (bases_of m) cells' target
@@ -98,7 +98,7 @@ module _ (address slot : ℕ → ℕ) (program : Source) (spot : List ℕ → Sp
       (v : Value) (cells' : List ℕ) → cell_of program st target ≡ Ok cell → value program st e ≡ Ok v
       → number_of v ≡ shown address slot v → slice_index m.cells (cell_address address slot cell)
       ≡ number_of (read st cell) → cells' ≡ slice_set m.cells (cell_address address slot cell)
-      (updated (turned d op) (number_of (read st cell)) (number_of v)) → Updating target e m st st' cells'
+      (updated (turned_operator d op) (number_of (read st cell)) (number_of v)) → Updating target e m st st' cells'
       → Runs im p d m (Done (record m { cells = cells' }) (update_steps target e))
   source_update op target e p law im d m st st' cell v cells' nc nv int word is h =
       let a : ℕ = cell_address address slot cell in
@@ -109,9 +109,9 @@ module _ (address slot : ℕ → ℕ) (program : Source) (spot : List ℕ → Sp
       number_is address slot program st spot (bases_of m) m.cells e h.value_means
       ∙ ap (shown_result address slot) nv in
       let same : updated_at d op a (shown address slot v) m.cells ≡ cells' =
-      ap (λ x. slice_set m.cells a (updated (turned d op) x (shown address slot v))) word
-      ∙ ap (λ x. slice_set m.cells a (updated (turned d op) (number_of (read st cell)) x)) (sym int) ∙ sym is in
-      let stays : Stays spot (bases_of m) (free_at free m) target e m.cells cells' = record {
+      ap (λ x. slice_set m.cells a (updated (turned_operator d op) x (shown address slot v))) word
+      ∙ ap (λ x. slice_set m.cells a (updated (turned_operator d op) (number_of (read st cell)) x)) (sym int) ∙ sym is in
+      let stays : UpdateStays spot (bases_of m) (free_at free m) target e m.cells cells' = record {
         place_sees = h.place_sees_after;
         value_sees = h.value_sees_after;
         place_same = same_places (bases_of m) m.cells cells' st st' target h.place_means h.place_means_after
@@ -121,7 +121,7 @@ module _ (address slot : ℕ → ℕ) (program : Source) (spot : List ℕ → Sp
       } in
       subst (λ z. Runs im p d m (Done (with_cells z m) (update_steps target e))) same
       (law.updates im d m h.can a (shown address slot v) na nn h.apart
-      (subst (Stays spot (bases_of m) (free_at free m) target e m.cells) (sym same) stays))
+      (subst (UpdateStays spot (bases_of m) (free_at free m) target e m.cells) (sym same) stays))
     where
       with_cells : List ℕ → Memory → Memory
       with_cells cells z = record z { cells = cells }
@@ -129,7 +129,7 @@ module _ (address slot : ℕ → ℕ) (program : Source) (spot : List ℕ → Sp
   -- the faults of an update, in their order
   pub source_update_place : (op : UpdateOp) (target : Lvalue) (e : Expression) (p : List Symbol)
       → UpdateLaw spot free op target e p → (im : Image) (d : Bool) (m : Memory) (st : State) (c : ℕ)
-      → CanRun spot free (place_words target + words e) (lvalue_read target) e m
+      → CanEvaluate spot free (place_words target + words e) (lvalue_read target) e m
       → MeansPlace address slot program st spot (bases_of m) m.cells target → cell_of program st target ≡ Err c
       → IsTrap im p d m c (place_steps target)
   source_update_place op target e p law im d m st c can h n =
@@ -138,7 +138,7 @@ module _ (address slot : ℕ → ℕ) (program : Source) (spot : List ℕ → Sp
 
   pub source_update_value : (op : UpdateOp) (target : Lvalue) (e : Expression) (p : List Symbol)
       → UpdateLaw spot free op target e p → (im : Image) (d : Bool) (m : Memory) (st : State) (cell : Cell) (c : ℕ)
-      → CanRun spot free (place_words target + words e) (lvalue_read target) e m
+      → CanEvaluate spot free (place_words target + words e) (lvalue_read target) e m
       → MeansPlace address slot program st spot (bases_of m) m.cells target
       → Means address slot program st spot (bases_of m) m.cells e → cell_of program st target ≡ Ok cell
       → value program st e ≡ Err c
@@ -150,7 +150,7 @@ module _ (address slot : ℕ → ℕ) (program : Source) (spot : List ℕ → Sp
 
   pub source_update_sharing : (op : UpdateOp) (target : Lvalue) (e : Expression) (p : List Symbol)
       → UpdateLaw spot free op target e p → (im : Image) (d : Bool) (m : Memory) (st : State) (cell : Cell) (v : Value)
-      → CanRun spot free (place_words target + words e) (lvalue_read target) e m
+      → CanEvaluate spot free (place_words target + words e) (lvalue_read target) e m
       → MeansPlace address slot program st spot (bases_of m) m.cells target
       → Means address slot program st spot (bases_of m) m.cells e → cell_of program st target ≡ Ok cell
       → value program st e ≡ Ok v → update_shares spot (bases_of m) m.cells target e ≡ true
@@ -163,7 +163,7 @@ module _ (address slot : ℕ → ℕ) (program : Source) (spot : List ℕ → Sp
   -- ---- swaps
 
   pub record Swapping (left right : Lvalue) (m : Memory) (st st' : State) (cells' : List ℕ) : Type 0 where
-    pub can : CanRun spot free (place_words left + place_words right) (lvalue_read left) (lvalue_read right) m
+    pub can : CanEvaluate spot free (place_words left + place_words right) (lvalue_read left) (lvalue_read right) m
     pub left_means : MeansPlace address slot program st spot (bases_of m) m.cells left
     pub right_means : MeansPlace address slot program st spot (bases_of m) m.cells right
     pub left_means_after : MeansPlace address slot program st' spot (bases_of m) cells' left
@@ -207,7 +207,7 @@ module _ (address slot : ℕ → ℕ) (program : Source) (spot : List ℕ → Sp
 
   pub source_swap_left : (left right : Lvalue) (p : List Symbol) → SwapLaw spot free left right p
       → (im : Image) (d : Bool) (m : Memory) (st : State) (c : ℕ)
-      → CanRun spot free (place_words left + place_words right) (lvalue_read left) (lvalue_read right) m
+      → CanEvaluate spot free (place_words left + place_words right) (lvalue_read left) (lvalue_read right) m
       → MeansPlace address slot program st spot (bases_of m) m.cells left → cell_of program st left ≡ Err c
       → IsTrap im p d m c (place_steps left)
   source_swap_left left right p law im d m st c can h n =
@@ -216,7 +216,7 @@ module _ (address slot : ℕ → ℕ) (program : Source) (spot : List ℕ → Sp
 
   pub source_swap_right : (left right : Lvalue) (p : List Symbol) → SwapLaw spot free left right p
       → (im : Image) (d : Bool) (m : Memory) (st : State) (x : Cell) (c : ℕ)
-      → CanRun spot free (place_words left + place_words right) (lvalue_read left) (lvalue_read right) m
+      → CanEvaluate spot free (place_words left + place_words right) (lvalue_read left) (lvalue_read right) m
       → MeansPlace address slot program st spot (bases_of m) m.cells left
       → MeansPlace address slot program st spot (bases_of m) m.cells right → cell_of program st left ≡ Ok x
       → cell_of program st right ≡ Err c
@@ -228,7 +228,7 @@ module _ (address slot : ℕ → ℕ) (program : Source) (spot : List ℕ → Sp
 
   pub source_swap_sharing : (left right : Lvalue) (p : List Symbol) → SwapLaw spot free left right p
       → (im : Image) (d : Bool) (m : Memory) (st : State) (x y : Cell)
-      → CanRun spot free (place_words left + place_words right) (lvalue_read left) (lvalue_read right) m
+      → CanEvaluate spot free (place_words left + place_words right) (lvalue_read left) (lvalue_read right) m
       → MeansPlace address slot program st spot (bases_of m) m.cells left
       → MeansPlace address slot program st spot (bases_of m) m.cells right → cell_of program st left ≡ Ok x
       → cell_of program st right ≡ Ok y → swap_shares spot (bases_of m) m.cells left right ≡ true

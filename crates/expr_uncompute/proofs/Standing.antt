@@ -10,8 +10,8 @@ use Rattle.register_expressions.specs.refine_form.declared.spot.Spot.{Spot}
 use Rattle.register_expressions.specs.refine_form.declared.spot.Spot.TheVariants.{Field, Frame}
 use Rattle.register_expressions.specs.code_scope.Visible.{offset_of}
 use Rattle.register_expressions.specs.Code.{addi, exch, base_of}
-use Rattle.expr_uncompute.specs.Code.{onward}
-use Rattle.register_expressions.specs.Number.{Bases, address_of}
+use Rattle.expr_uncompute.specs.Code.{onward_cell}
+use Rattle.register_expressions.specs.Number.{Bases, spot_address}
 use Rattle.register_expressions.proofs.Goes.{Goes, goes_to, goes_addi, goes_addi_word, goes_exch}
 use Rattle.register_expressions.proofs.Reading.{moved}
 use Rattle.register_expressions.proofs.Scratch.{Scratch, keeping, mem}
@@ -30,29 +30,29 @@ module _ (b : Bases) where
   abbrev pub onto : (x y : Spot) → Bases
   onto (Field i) (Field j) = moved b (Field j)
   onto (Frame i) (Frame j) = moved b (Frame j)
-  onto (Field i) (Frame j) = record { object = address_of b (Field i); frame = address_of b (Frame j) }
-  onto (Frame i) (Field j) = record { object = address_of b (Field j); frame = address_of b (Frame i) }
+  onto (Field i) (Frame j) = record { object = spot_address b (Field i); frame = spot_address b (Frame j) }
+  onto (Frame i) (Field j) = record { object = spot_address b (Field j); frame = spot_address b (Frame i) }
 
-  pub stands_there : (x : Spot) → stand (moved b x) x ≡ address_of b x
+  pub stands_there : (x : Spot) → stand (moved b x) x ≡ spot_address b x
   stands_there (Field i) = refl
   stands_there (Frame i) = refl
 
-  pub stands_on : (x y : Spot) → stand (onto x y) y ≡ address_of b y
+  pub stands_on : (x y : Spot) → stand (onto x y) y ≡ spot_address b y
   stands_on (Field i) (Field j) = refl
   stands_on (Field i) (Frame j) = refl
   stands_on (Frame i) (Field j) = refl
   stands_on (Frame i) (Frame j) = refl
 
   module _ (f : ℕ → ℕ) (s : Scratch) (zs : List ℕ) where
-    pub there_goes : (x : Spot) → address_of b x < 2 ^ 32
+    pub there_goes : (x : Spot) → spot_address b x < 2 ^ 32
         → Goes (addi (base_of x) (offset_of x) ∷ []) 1 (mem b f s zs) (mem (moved b x) f s zs)
     there_goes (Field i) h = goes_addi _ (λ z. mem (record b { object = z }) f s zs) b.object (HEADER_WORDS + i) h refl
         (omega arith) (λ z. refl) (λ z. refl)
     there_goes (Frame i) h = goes_addi _ (λ z. mem (record b { frame = z }) f s zs) b.frame i h refl (omega arith)
         (λ z. refl) (λ z. refl)
 
-    pub on_goes : (x y : Spot) → address_of b x < 2 ^ 32 → address_of b y < 2 ^ 32
-        → Goes (onward x y ∷ []) 1 (mem (moved b x) f s zs) (mem (onto x y) f s zs)
+    pub on_goes : (x y : Spot) → spot_address b x < 2 ^ 32 → spot_address b y < 2 ^ 32
+        → Goes (onward_cell x y ∷ []) 1 (mem (moved b x) f s zs) (mem (onto x y) f s zs)
     on_goes (Field i) (Field j) h k =
         let put : ℕ → Memory = λ z. mem (record b { object = z }) f s zs in
         goes_to refl refl (ap put (far b.object (HEADER_WORDS + i) (HEADER_WORDS + j) h k))
@@ -63,9 +63,9 @@ module _ (b : Bases) where
         let put : ℕ → Memory = λ z. mem (record b { frame = z }) f s zs in
         goes_to refl refl (ap put (far b.frame i j h k)) (goes_addi_word _ put (b.frame + i) (difference_of j i) h
         (omega arith) refl (omega arith) (λ z. refl) (λ z. refl))
-    on_goes (Field i) (Frame j) h k = goes_addi _ (λ z. mem (record { object = address_of b (Field i); frame = z }) f s
+    on_goes (Field i) (Frame j) h k = goes_addi _ (λ z. mem (record { object = spot_address b (Field i); frame = z }) f s
         zs) b.frame j k refl (omega arith) (λ z. refl) (λ z. refl)
-    on_goes (Frame i) (Field j) h k = goes_addi _ (λ z. mem (record { object = z; frame = address_of b (Frame i) }) f s
+    on_goes (Frame i) (Field j) h k = goes_addi _ (λ z. mem (record { object = z; frame = spot_address b (Frame i) }) f s
         zs) b.object (HEADER_WORDS + j) k refl (omega arith) (λ z. refl) (λ z. refl)
 
 module _ (f : ℕ → ℕ) where

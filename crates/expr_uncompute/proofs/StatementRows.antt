@@ -18,15 +18,15 @@ use Rattle.register_expressions.specs.roopl_semantics.Elements.{elements, index_
 use Rattle.register_expressions.specs.roopl_semantics.Elements.{read_cost, SHARED_ARRAY}
 use Rattle.register_expressions.specs.roopl_semantics.Execution.{Setting, Runner, statement}
 use Rattle.register_expressions.specs.refine_form.declared.spot.Spot.{Spot}
-use Rattle.register_expressions.specs.refine_form.Form.{told, turned as facing}
+use Rattle.register_expressions.specs.refine_form.Form.{run_result, turned_statement as facing}
 use Rattle.register_expressions.specs.Code.{words}
 use Rattle.expr_uncompute.specs.Code.{place_words}
 use Rattle.register_expressions.specs.Number.{lvalue_read, index_of}
 use Rattle.expr_uncompute.specs.Steps.{place_steps, fetch_steps, apart_steps, both_apart_steps, update_steps}
 use Rattle.expr_uncompute.specs.Steps.{swap_steps}
 use Rattle.register_expressions.specs.Laws.{bases_of}
-use Rattle.expr_uncompute.specs.Laws.{turned, swapped_at}
-use Rattle.expr_uncompute.specs.Promises.{UpdateLaw, SwapLaw, CanRun}
+use Rattle.expr_uncompute.specs.Laws.{turned_operator, swapped_at}
+use Rattle.expr_uncompute.specs.Promises.{UpdateLaw, SwapLaw, CanEvaluate}
 use Rattle.expr_uncompute.specs.Means.{shown, cell_address, Means, MeansPlace, TellsShares}
 use Rattle.expr_uncompute.proofs.Sharing.{update_shares_is, swap_shares_is}
 use Rattle.expr_uncompute.proofs.SourceLaws.{Updating, Swapping, source_update, source_update_place}
@@ -46,7 +46,7 @@ module _ (setting : Setting) (address slot : State → ℕ → ℕ) (R : State �
   pub record UpdateFacts (op : UpdateOp) (target : Lvalue) (e : Expression) : Type 0 where
     pub tells : (st : State) (m : Memory) → R st m → TellsShares (address st) (slot st) setting.program st spot
         (bases_of m) m.cells target (index_of target) e
-    pub can : (st : State) (m : Memory) → R st m → CanRun spot free (place_words target + words e) (lvalue_read target)
+    pub can : (st : State) (m : Memory) → R st m → CanEvaluate spot free (place_words target + words e) (lvalue_read target)
         e m
     pub place_means : (st : State) (m : Memory) → R st m → MeansPlace (address st) (slot st) setting.program st spot
         (bases_of m) m.cells target
@@ -88,7 +88,7 @@ module _ (setting : Setting) (address slot : State → ℕ → ℕ) (R : State �
           → (shared : Bool) (rc : Result Cell ℕ) (rv : Result Value ℕ)
           → share_array setting.program st (own_element target) (index_elements target ++ elements e) ≡ shared
           → cell_of setting.program st target ≡ rc → value setting.program st e ≡ rv
-          → Will im p d m (Meets R b n 0 (told (update_row (turned d op) target e st shared rc rv)))
+          → Will im p d m (Meets R b n 0 (run_result (update_row (turned_operator d op) target e st shared rc rv)))
       update_meets d st m h shared (Err c) rv ns nc nv =
           let t = source_update_place (address st) (slot st) setting.program spot free op target e p law im d m st c
           (facts.can st m h) (facts.place_means st m h) nc in
@@ -115,8 +115,8 @@ module _ (setting : Setting) (address slot : State → ℕ → ℕ) (R : State �
           let run = source_update (address st) (slot st) setting.program spot free op target e p law im d m st _ cell v
           _
           nc nv (facts.int_value st m v h nv) (facts.int_cell st m cell h nc) refl
-          (facts.updating (turned d op) st m cell v h nc nv ns) in
-          will_of im p d m _ _ run (fine (facts.after (turned d op) st m cell v h nc nv ns)
+          (facts.updating (turned_operator d op) st m cell v h nc nv ns) in
+          will_of im p d m _ _ run (fine (facts.after (turned_operator d op) st m cell v h nc nv ns)
           (less b.counts (update_steps target e) _ some (let l = update_least target e in omega arith))
           (let k = rated 162 b.steps (update_steps target e)
           (1 + index_nodes target + nodes e + read_cost (own_element target)
@@ -124,17 +124,17 @@ module _ (setting : Setting) (address slot : State → ℕ → ℕ) (R : State �
 
       statement_is : (d : Bool) (at k : ℕ) (run : Runner) (st : State)
           → after_cost 1 (statement setting k run (facing d (Update at op target e)) st)
-          ≡ update_row (turned d op) target e st (share_array setting.program st (own_element target)
+          ≡ update_row (turned_operator d op) target e st (share_array setting.program st (own_element target)
           (index_elements target ++ elements e)) (cell_of setting.program st target) (value setting.program st e)
       statement_is false at k run st = refl
       statement_is true at k run st = refl
 
       -- so an update's fragment does what the source does
       pub update_does : (d : Bool) (at k : ℕ) (run : Runner)
-          → Does im p d R R b n 0 (λ st. told (after_cost 1 (statement setting k run (facing d (Update at op target e))
+          → Does im p d R R b n 0 (λ st. run_result (after_cost 1 (statement setting k run (facing d (Update at op target e))
           st)))
       update_does d at k run = record {
-        does = λ st m h. subst (λ r. Will im p d m (Meets R b n 0 (told r))) (sym (statement_is d at k run st))
+        does = λ st m h. subst (λ r. Will im p d m (Meets R b n 0 (run_result r))) (sym (statement_is d at k run st))
             (update_meets d st m h (share_array setting.program st (own_element target)
             (index_elements target ++ elements e)) (cell_of setting.program st target) (value setting.program st e)
             refl refl refl);
@@ -146,7 +146,7 @@ module _ (setting : Setting) (address slot : State → ℕ → ℕ) (R : State �
         (bases_of m) m.cells left (index_of left) (index_of right)
     pub right_tells : (st : State) (m : Memory) → R st m → TellsShares (address st) (slot st) setting.program st spot
         (bases_of m) m.cells right (index_of left) (index_of right)
-    pub can : (st : State) (m : Memory) → R st m → CanRun spot free (place_words left + place_words right)
+    pub can : (st : State) (m : Memory) → R st m → CanEvaluate spot free (place_words left + place_words right)
         (lvalue_read left) (lvalue_read right) m
     pub left_means : (st : State) (m : Memory) → R st m → MeansPlace (address st) (slot st) setting.program st spot
         (bases_of m) m.cells left
@@ -181,7 +181,7 @@ module _ (setting : Setting) (address slot : State → ℕ → ℕ) (R : State �
         → share_array setting.program st (own_element left ++ own_element right)
         (index_elements left ++ index_elements right) ≡ shared → cell_of setting.program st left ≡ rx
         → cell_of setting.program st right ≡ ry
-        → Will im p d m (Meets R b n 0 (told (swap_row left right st shared rx ry)))
+        → Will im p d m (Meets R b n 0 (run_result (swap_row left right st shared rx ry)))
     swap_meets d st m h shared (Err c) ry ns nx ny =
         let t = source_swap_left (address st) (slot st) setting.program spot free left right p law im d m st c
         (facts.can st m h) (facts.left_means st m h) nx in
@@ -222,9 +222,9 @@ module _ (setting : Setting) (address slot : State → ℕ → ℕ) (R : State �
     swap_is true at k run st = refl
 
     pub swap_does : (d : Bool) (at k : ℕ) (run : Runner) → Does im p d R R b n 0
-        (λ st. told (after_cost 1 (statement setting k run (facing d (Swap at left right)) st)))
+        (λ st. run_result (after_cost 1 (statement setting k run (facing d (Swap at left right)) st)))
     swap_does d at k run = record {
-      does = λ st m h. subst (λ r. Will im p d m (Meets R b n 0 (told r))) (sym (swap_is d at k run st))
+      does = λ st m h. subst (λ r. Will im p d m (Meets R b n 0 (run_result r))) (sym (swap_is d at k run st))
           (swap_meets d st m h (share_array setting.program st (own_element left ++ own_element right)
           (index_elements left ++ index_elements right)) (cell_of setting.program st left)
           (cell_of setting.program st right) refl refl refl);

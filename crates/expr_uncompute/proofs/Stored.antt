@@ -7,16 +7,16 @@ use Rattle.rpp_tree.specs.Tree.{Expression, Number, Null, Variable, Element, Bin
 use Rattle.register_expressions.specs.refine_form.declared.spot.Spot.{Spot}
 use Rattle.register_expressions.specs.refine_form.declared.spot.Spot.TheVariants.{Frame}
 use Rattle.register_expressions.specs.Code.{words}
-use Rattle.register_expressions.specs.Number.{Bases, address_of, given, word_of, number, Sees, Same}
+use Rattle.register_expressions.specs.Number.{Bases, spot_address, word_given, word_of, number, Sees, Same}
 use Rattle.register_expressions.proofs.Numbers.{Agree, number_same, sees_same}
 
 module _ (spot : List ℕ → Spot) (free : ℕ) (b : Bases) where
   -- the address of a word of the frame
   abbrev pub home : ℕ → ℕ
-  home i = address_of b (Frame (free + i))
+  home i = spot_address b (Frame (free + i))
 
   abbrev value : List ℕ → Expression → ℕ
-  value zs e = given (number spot b zs e)
+  value zs e = word_given (number spot b zs e)
 
   -- the cells after `prepare`
   abbrev pub stored : Expression → (i : ℕ) → List ℕ → List ℕ
@@ -24,10 +24,10 @@ module _ (spot : List ℕ → Spot) (free : ℕ) (b : Bases) where
   stored (Null at) i zs = zs
   stored (Variable name) i zs = zs
   stored (Element name index) i zs = slice_set (stored index (i + 1) zs) (home i)
-      (given (number spot b zs (Element name index)))
+      (word_given (number spot b zs (Element name index)))
   stored (Binary at op left right) i zs =
       slice_set (stored right (i + 1 + words left) (stored left (i + 1) zs)) (home i)
-      (given (number spot b zs (Binary at op left right)))
+      (word_given (number spot b zs (Binary at op left right)))
 
   -- and those with only the subexpressions prepared
   abbrev pub parted : Expression → (i : ℕ) → List ℕ → List ℕ
@@ -88,7 +88,7 @@ module _ (spot : List ℕ → Spot) (free : ℕ) (b : Bases) where
 
   -- after `prepare` it reads its value
   pub stored_reads : (e : Expression) (i : ℕ) (zs : List ℕ) → home (i + words e) ≤ length zs
-      → Reads (stored e i zs) e i (given (number spot b zs e))
+      → Reads (stored e i zs) e i (word_given (number spot b zs e))
   stored_reads (Number at word) i zs h = refl
   stored_reads (Null at) i zs h = refl
   stored_reads (Variable name) i zs h = refl
@@ -151,18 +151,18 @@ module _ (spot : List ℕ → Spot) (free : ℕ) (b : Bases) where
   stored_written write w (Null at) i zs s s' h = refl
   stored_written write w (Variable name) i zs s s' h = refl
   stored_written write w (Element name index) i zs s s' h =
-      ap (λ n. slice_set (stored index (i + 1) (write zs)) (home i) (given n)) h.0
-      ∙ ap (λ ys. slice_set ys (home i) (given (number spot b zs (Element name index))))
+      ap (λ n. slice_set (stored index (i + 1) (write zs)) (home i) (word_given n)) h.0
+      ∙ ap (λ ys. slice_set ys (home i) (word_given (number spot b zs (Element name index))))
       (stored_written write w index (i + 1) zs s.2 s'.2 h.1)
-      ∙ sym (w.passes (stored index (i + 1) zs) (home i) (given (number spot b zs (Element name index))) (omega arith))
+      ∙ sym (w.passes (stored index (i + 1) zs) (home i) (word_given (number spot b zs (Element name index))) (omega arith))
   stored_written write w (Binary at op left right) i zs s s' h =
       let j : ℕ = i + 1 + words left in
       let zs1 : List ℕ = stored left (i + 1) zs in
-      let n : ℕ = given (number spot b zs (Binary at op left right)) in
+      let n : ℕ = word_given (number spot b zs (Binary at op left right)) in
       let below = stored_below left (i + 1) zs in
       let below' : Agree (b.frame + free) (write zs) (write zs1) =
       w.lifts zs zs1 (stored_length left (i + 1) zs) below in
-      ap (λ n. slice_set (stored right (i + 1 + words left) (stored left (i + 1) (write zs))) (home i) (given n)) h.0
+      ap (λ n. slice_set (stored right (i + 1 + words left) (stored left (i + 1) (write zs))) (home i) (word_given n)) h.0
       ∙ ap (λ ys. slice_set (stored right (i + 1 + words left) ys) (home i) n)
       (stored_written write w left (i + 1) zs s.0 s'.0 h.1)
       ∙ ap (λ ys. slice_set ys (home i) n) (stored_written write w right j zs1

@@ -18,7 +18,7 @@ use Rattle.expr_uncompute.specs.Code.{place_words}
 use Rattle.register_expressions.specs.Number.{Bases, lvalue_read, index_of}
 use Rattle.register_expressions.specs.Laws.{bases_of}
 use Rattle.expr_uncompute.specs.Laws.{swapped_at}
-use Rattle.expr_uncompute.specs.Promises.{CanRun}
+use Rattle.expr_uncompute.specs.Promises.{CanEvaluate}
 use Rattle.expr_uncompute.specs.Means.{shown, cell_address, AreOperands, words as both_words, compared, OperandsOf}
 use Rattle.expr_uncompute.specs.Means.{IsInt, StandsArray, Means, MeansPlace, TellsShares, SameValues, SameCells}
 use Rattle.expr_uncompute.proofs.Sharing.{update_shares_is, swap_shares_is}
@@ -105,7 +105,7 @@ module _ (setting : Setting) (address slot : State → ℕ → ℕ) (R : State �
   pub record UpdateNeeds (target : Lvalue) (e : Expression) : Type 0 where
     pub tells : (st : State) (m : Memory) → R st m → TellsShares (address st) (slot st) setting.program st spot
         (bases_of m) m.cells target (index_of target) e
-    pub can : (st : State) (m : Memory) → R st m → CanRun spot free (place_words target + words e) (lvalue_read target)
+    pub can : (st : State) (m : Memory) → R st m → CanEvaluate spot free (place_words target + words e) (lvalue_read target)
         e m
     pub place_means : (st : State) (m : Memory) → R st m → MeansPlace (address st) (slot st) setting.program st spot
         (bases_of m) m.cells target
@@ -184,7 +184,7 @@ module _ (setting : Setting) (address slot : State → ℕ → ℕ) (R : State �
         (bases_of m) m.cells left (index_of left) (index_of right)
     pub right_tells : (st : State) (m : Memory) → R st m → TellsShares (address st) (slot st) setting.program st spot
         (bases_of m) m.cells right (index_of left) (index_of right)
-    pub can : (st : State) (m : Memory) → R st m → CanRun spot free (place_words left + place_words right)
+    pub can : (st : State) (m : Memory) → R st m → CanEvaluate spot free (place_words left + place_words right)
         (lvalue_read left) (lvalue_read right) m
     pub left_means : (st : State) (m : Memory) → R st m → MeansPlace (address st) (slot st) setting.program st spot
         (bases_of m) m.cells left

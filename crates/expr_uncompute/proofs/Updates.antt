@@ -22,7 +22,7 @@ use Rattle.register_expressions.specs.Code.{base_of, addi}
 use Rattle.expr_uncompute.specs.Code.{near_swap_cells}
 use Rattle.register_expressions.specs.code_scope.Visible.{offset_of}
 use Rattle.register_expressions.specs.Held.{need, has_element, is_opened_once, is_near, is_near_index}
-use Rattle.register_expressions.specs.Number.{Bases, address_of, number, word_of, element_at, lvalue_read, index_of}
+use Rattle.register_expressions.specs.Number.{Bases, spot_address, number, word_of, element_at, lvalue_read, index_of}
 use Rattle.register_expressions.specs.Number.{place_address, reads_array, update_shares, swap_shares, Sees, Same}
 use Rattle.register_expressions.specs.Number.{SamePlace}
 use Rattle.expr_uncompute.specs.Laws.{swapped_at}
@@ -265,8 +265,8 @@ module _ (spot : List ℕ → Spot) (free : ℕ) (b : Bases) where
     by_variable name other zs zs' a v h h' s s' na na' nv nv' sp sv apart apart' q =
         let l = h.sees in
         let fits = h.fits in
-        let y : ℕ = address_of b (spot name.text) in
-        let x : ℕ = address_of b (spot other.text) in
+        let y : ℕ = spot_address b (spot name.text) in
+        let x : ℕ = spot_address b (spot other.text) in
         let cells : slice_set zs y (updated op (slice_index zs y) (slice_index zs x)) ≡ zs' =
         ap (λ i. slice_set zs i (updated op (slice_index zs i) (slice_index zs x))) (ok_is na)
         ∙ ap (λ z. slice_set zs a (updated op (slice_index zs a) z)) (ok_is nv) ∙ sym q in
@@ -583,8 +583,8 @@ module _ (spot : List ℕ → Spot) (free : ℕ) (b : Bases) where
     whole_swap_goes name other zs zs' p q h h' s s' np np' nq nq' st so apart apart' e =
         let l = h.sees in
         let fits = h.fits in
-        let x : ℕ = address_of b (spot name.text) in
-        let y : ℕ = address_of b (spot other.text) in
+        let x : ℕ = spot_address b (spot name.text) in
+        let y : ℕ = spot_address b (spot other.text) in
         let cells : swapped_at x y zs ≡ zs' = ap (λ i. swapped_at i y zs) (ok_is np)
         ∙ ap (λ i. swapped_at p i zs) (ok_is nq)
         ∙ sym e in
@@ -593,7 +593,7 @@ module _ (spot : List ℕ → Spot) (free : ℕ) (b : Bases) where
 
     -- a variable and an element that is found once, by what exchanges the two words
     near_swap_goes : (x : Spot) (name : Ident) (index : Expression) (zs zs' : List ℕ) (p q a : ℕ) (four : List Symbol)
-        → p < low → q < low → address_of b x < low → FitPlace spot free b (Item name index) 0 zs
+        → p < low → q < low → spot_address b x < low → FitPlace spot free b (Item name index) 0 zs
         → FitPlace spot free b (Item name index) 0 zs' → place_address spot b zs (Item name index) ≡ Ok a
         → place_address spot b zs' (Item name index) ≡ Ok a → SamePlace spot b zs zs' (Item name index)
         → zs' ≡ swapped_at p q zs
@@ -632,7 +632,7 @@ module _ (spot : List ℕ → Spot) (free : ℕ) (b : Bases) where
         (near_swap_cells spot free (base_of (spot name.text)) RIGHT (spot name.text) other.text index)
         (near_swap_steps index)
     by_first name other index zs zs' p q h h' s s' np np' nq nq' st so apart apart' e =
-        let x : ℕ = address_of b (spot name.text) in
+        let x : ℕ = spot_address b (spot name.text) in
         let l = h.sees in
         let fits = h.fits in
         let ql : q < low = place_low (Item other index) q zs s nq in
@@ -647,7 +647,7 @@ module _ (spot : List ℕ → Spot) (free : ℕ) (b : Bases) where
         (near_swap_cells spot free RIGHT (base_of (spot other.text)) (spot other.text) name.text index)
         (near_swap_steps index)
     by_second name other index zs zs' p q h h' s s' np np' nq nq' st so apart apart' e =
-        let x : ℕ = address_of b (spot other.text) in
+        let x : ℕ = spot_address b (spot other.text) in
         let l = s in
         let fits = h.fits in
         let pl : p < low = place_low (Item name index) p zs h.sees np in

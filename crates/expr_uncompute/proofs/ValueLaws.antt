@@ -5,7 +5,7 @@ use Rattle.register_expressions.proofs.rpp_words_laws.Laws.{xor-twice}
 use Rattle.rpp_tree.specs.declared.tree.BinOp.{BinOp}
 use Rattle.rpp_tree.specs.declared.tree.BinOp.TheVariants as op
 use Rattle.rpp_tree.specs.Tree.{Expression, Number, Null, Variable, Element, Binary}
-use Rattle.register_expressions.specs.paired_code.Machine.{reg}
+use Rattle.register_expressions.specs.paired_code.Machine.{memory_reg}
 use Rattle.register_expressions.specs.paired_code.declared.part.Symbol.{Symbol}
 use Rattle.register_expressions.specs.roopl_semantics.Operators.{is_true, truth_word}
 use Rattle.register_expressions.specs.refine_form.declared.spot.Spot.{Spot}
@@ -78,7 +78,7 @@ module _ (spot : List ℕ → Spot) (free : ℕ) (b : Bases) where
         (parted_room spot free b e i zs fit) d.parts (parted_number spot free b e i zs fit ∙ n)
 
     gives : (f : ℕ → ℕ) (v : ℕ) → number spot b zs e ≡ Ok v → (zs' : List ℕ)
-        → reg (mem (based spot free b e) f (opened spot free b m p q (parted spot free b e i zs) e) zs') (result_of e)
+        → memory_reg (mem (based spot free b e) f (opened spot free b m p q (parted spot free b e i zs) e) zs') (result_of e)
         ≡ v
     gives f v n zs' = open_gives spot free b m p q f e v whole_parts zs' (parted_number spot free b e i zs fit ∙ n)
 

@@ -6,7 +6,7 @@ use Rattle.std.specs.Prelude.{slice_index, bit_xor, if◌then◌else◌, Result,
 use Rattle.rpp_tree.specs.Tree.{Expression}
 use Rattle.register_expressions.specs.pisa_isa.Machine.{Memory}
 use Rattle.register_expressions.specs.code_conventions.declared.registers.TheConstants.{TRUTH}
-use Rattle.register_expressions.specs.paired_code.Machine.{Image, reg, with_reg}
+use Rattle.register_expressions.specs.paired_code.Machine.{Image, memory_reg, memory_with_reg}
 use Rattle.register_expressions.specs.paired_code.Pieces.{Done, Trapped, Runs}
 use Rattle.register_expressions.specs.paired_code.declared.part.Symbol.{Symbol}
 use Rattle.register_expressions.specs.roopl_semantics.Operators.{is_true, truth_word}
@@ -57,13 +57,13 @@ cleared f h =
     let h24 = h 24 (inr (omega arith, omega arith)) in
     full f ∙ cc
 
-pub as_mem : (free n : ℕ) (m : Memory) → Ready free n m → m ≡ mem (bases_of m) (reg m) (keeping 0 0 0) m.cells
+pub as_mem : (free n : ℕ) (m : Memory) → Ready free n m → m ≡ mem (bases_of m) (memory_reg m) (keeping 0 0 0) m.cells
 as_mem free n m h = ap (λ r. record m { regs = r }) (tabulated_is 32 m.regs h.count
     ∙ cleared (slice_index m.regs) h.clear)
 
 -- one of the other registers written
 target_set : (b : Bases) (f : ℕ → ℕ) (s : Scratch) (zs : List ℕ) (i x : ℕ) → IsTarget i
-    → with_reg (mem b f s zs) i x ≡ mem b (written f i x) s zs
+    → memory_with_reg (mem b f s zs) i x ≡ mem b (written f i x) s zs
 target_set b f s zs i x at0 = refl
 target_set b f s zs i x at1 = refl
 target_set b f s zs i x at11 = refl
@@ -80,7 +80,7 @@ target_set b f s zs i x at30 = refl
 target_set b f s zs i x at31 = refl
 
 pub fit_of : (spot : List ℕ → Spot) (free : ℕ) (e : Expression) (m : Memory) → Ready free (words e) m
-    → Sees spot (bases_of m) (reg m 4 + free) m.cells e → Fit spot free (bases_of m) e 0 m.cells
+    → Sees spot (bases_of m) (memory_reg m 4 + free) m.cells e → Fit spot free (bases_of m) e 0 m.cells
 fit_of spot free e m h s = record {
   all = h.words;
   sees = s;
@@ -89,26 +89,26 @@ fit_of spot free e m h s = record {
 }
 
 module _ (spot : List ℕ → Spot) (free into : ℕ) (e : Expression) (m : Memory) (target : Target into)
-    (ready : Ready free (words e) m) (sees : Sees spot (bases_of m) (reg m 4 + free) m.cells e) (im : Image) (d : Bool)
+    (ready : Ready free (words e) m) (sees : Sees spot (bases_of m) (memory_reg m 4 + free) m.cells e) (im : Image) (d : Bool)
   where
     abbrev b : Bases
     b = bases_of m
 
     abbrev seen : Memory
-    seen = mem (bases_of m) (reg m) (keeping 0 0 0) m.cells
+    seen = mem (bases_of m) (memory_reg m) (keeping 0 0 0) m.cells
 
-    same : m ≡ mem (bases_of m) (reg m) (keeping 0 0 0) m.cells
+    same : m ≡ mem (bases_of m) (memory_reg m) (keeping 0 0 0) m.cells
     same = as_mem free (words e) m ready
 
     -- a run over the registers as they are known
-    run_of : (p : List Symbol) (x k : ℕ) → Runs im p d (mem (bases_of m) (reg m) (keeping 0 0 0) m.cells)
-        (Done (mem (bases_of m) (written (reg m) into x) (keeping 0 0 0) m.cells) k)
-        → Runs im p d m (Done (with_reg m into x) k)
+    run_of : (p : List Symbol) (x k : ℕ) → Runs im p d (mem (bases_of m) (memory_reg m) (keeping 0 0 0) m.cells)
+        (Done (mem (bases_of m) (written (memory_reg m) into x) (keeping 0 0 0) m.cells) k)
+        → Runs im p d m (Done (memory_with_reg m into x) k)
     run_of p x k r =
-        let t : with_reg m into x ≡ mem (bases_of m) (written (reg m) into x) (keeping 0 0 0) m.cells =
-        ap (λ z. with_reg z into x) same ∙ target_set b (reg m) (keeping 0 0 0) m.cells into x (target_is into target)
+        let t : memory_with_reg m into x ≡ mem (bases_of m) (written (memory_reg m) into x) (keeping 0 0 0) m.cells =
+        ap (λ z. memory_with_reg z into x) same ∙ target_set b (memory_reg m) (keeping 0 0 0) m.cells into x (target_is into target)
         in
-        subst (λ z. Runs im p d z (Done (with_reg m into x) k)) (sym same)
+        subst (λ z. Runs im p d z (Done (memory_with_reg m into x) k)) (sym same)
         (subst (λ z. Runs im p d seen (Done z k)) (sym t) r)
 
     value_by : (r : Result ℕ ℕ) → number spot (bases_of m) m.cells e ≡ r
@@ -116,20 +116,19 @@ module _ (spot : List ℕ → Spot) (free into : ℕ) (e : Expression) (m : Memo
     value_by (Ok v) n =
         let t = target_is into target in
         let fit = fit_of spot free e m ready sees in
-        let f' : ℕ → ℕ = written (reg m) into (bit_xor (reg m into) v) in
+        let f' : ℕ → ℕ = written (memory_reg m) into (bit_xor (memory_reg m into) v) in
         let back = value_into spot free b 0 0 0 e 0 m.cells fit f' v into n t in
-        let there = value_into spot free b 0 0 0 e 0 m.cells fit (reg m) v into n t in
+        let there = value_into spot free b 0 0 0 e 0 m.cells fit (memory_reg m) v into n t in
         run_of (prepared_value_cells spot free e into) _ (prepared_value_steps e)
         (runs_along there (Rattle.register_expressions.proofs.Goes.goes_to refl refl
-        (written_twice b (reg m) (keeping 0 0 0) m.cells into v t) back) im d)
+        (written_twice b (memory_reg m) (keeping 0 0 0) m.cells into v t) back) im d)
     value_by (Err c) n =
         let a = (both_more (omega arith) (value_traps spot free b 0 0 0 e 0 m.cells (fit_of spot free e m ready sees)
-        (reg m) c (xor into (result_of e) ∷ []) n)).runs im d in
+        (memory_reg m) c (xor into (result_of e) ∷ []) n)).runs im d in
         (a.0, a.1, subst (λ z. Runs im (prepared_value_cells spot free e into) d z (Trapped c a.0)) (sym same) a.2)
 
     -- the code of an expression with words of the frame xors its number into a register, or traps, in either direction,
-    -- and
-    -- nothing else differs
+    -- and nothing else differs
     prepared_value : Xored into (prepared_value_steps e) m (number spot (bases_of m) m.cells e) im
         (prepared_value_cells spot free e into)
         d
@@ -140,15 +139,15 @@ module _ (spot : List ℕ → Spot) (free into : ℕ) (e : Expression) (m : Memo
     test_by (Ok v) n =
         let t = target_is into target in
         let fit = fit_of spot free e m ready sees in
-        let f' : ℕ → ℕ = written (reg m) into (bit_xor (reg m into) (truth_word (is_true v))) in
+        let f' : ℕ → ℕ = written (memory_reg m) into (bit_xor (memory_reg m into) (truth_word (is_true v))) in
         let back = test_into spot free b 0 0 0 e 0 m.cells fit f' v into n t in
-        let there = test_into spot free b 0 0 0 e 0 m.cells fit (reg m) v into n t in
+        let there = test_into spot free b 0 0 0 e 0 m.cells fit (memory_reg m) v into n t in
         run_of (prepared_test_cells spot free e into) _ (prepared_test_steps e)
         (runs_along there (Rattle.register_expressions.proofs.Goes.goes_to refl refl
-        (written_twice b (reg m) (keeping 0 0 0) m.cells into (truth_word (is_true v)) t) back) im d)
+        (written_twice b (memory_reg m) (keeping 0 0 0) m.cells into (truth_word (is_true v)) t) back) im d)
     test_by (Err c) n =
         let a = (both_more (omega arith) (into_traps spot free b 0 0 0 e 0 m.cells (fit_of spot free e m ready sees)
-        (reg m) c (truth_cells TRUTH (result_of e)) (xor into TRUTH ∷ []) n)).runs im d in
+        (memory_reg m) c (truth_cells TRUTH (result_of e)) (xor into TRUTH ∷ []) n)).runs im d in
         (a.0, a.1, subst (λ z. Runs im (prepared_test_cells spot free e into) d z (Trapped c a.0)) (sym same) a.2)
 
     prepared_test : Xored into (prepared_test_steps e) m (truth_of (number spot (bases_of m) m.cells e)) im

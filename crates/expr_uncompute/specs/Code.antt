@@ -61,13 +61,13 @@ from_frame from (Field i) = addi OBJECT (offset_of (Field i))
 from_frame from (Frame i) = addi FRAME (difference_of i from)
 
 -- the same from a storage slot that has its base
-abbrev pub onward : (x y : Spot) → Symbol
-onward (Field i) y = from_object (offset_of (Field i)) y
-onward (Frame i) y = from_frame i y
+abbrev pub onward_cell : (x y : Spot) → Symbol
+onward_cell (Field i) y = from_object (offset_of (Field i)) y
+onward_cell (Frame i) y = from_frame i y
 
 -- the word of one spot in `AMOUNT`, and that of another in `CONTENT`
 abbrev pub both_reached : (x y : Spot) → List Symbol
-both_reached x y = addi (base_of x) (offset_of x) ∷ exch AMOUNT (base_of x) ∷ onward x y
+both_reached x y = addi (base_of x) (offset_of x) ∷ exch AMOUNT (base_of x) ∷ onward_cell x y
     ∷ exch CONTENT (base_of y) ∷ []
 
 -- the word of a place updated by the value, and the words of two places swapped
@@ -84,18 +84,18 @@ swap_middle = four_exchanges PLACE OTHER_PLACE
 
 -- two storage slots that have two bases or are one: both bases are there
 abbrev pub swap_at : (x y : Spot) → List Symbol
-swap_at x y = around (addi (base_of x) (offset_of x) ∷ onward x y ∷ [])
+swap_at x y = around (addi (base_of x) (offset_of x) ∷ onward_cell x y ∷ [])
     (four_exchanges (base_of x) (base_of y))
 
 -- of two storage slots of one base: while the first word is out, it goes to the second storage slot
 -- and back
-abbrev pub beyond : (x y : Spot) → List Symbol
-beyond x y = around (onward x y ∷ []) (exch SECOND_WORD (base_of y) ∷ exch FIRST_WORD (base_of y)
+abbrev pub beyond_cells : (x y : Spot) → List Symbol
+beyond_cells x y = around (onward_cell x y ∷ []) (exch SECOND_WORD (base_of y) ∷ exch FIRST_WORD (base_of y)
     ∷ [])
 
 abbrev pub swap_by_one : (x y : Spot) → List Symbol
 swap_by_one x y = around (addi (base_of x) (offset_of x) ∷ [])
-    ((exch FIRST_WORD (base_of x) ∷ beyond x y) ++ exch SECOND_WORD (base_of x) ∷ [])
+    ((exch FIRST_WORD (base_of x) ∷ beyond_cells x y) ++ exch SECOND_WORD (base_of x) ∷ [])
 
 abbrev pub have_one_base : (x y : Spot) → Bool
 have_one_base x y = nat_eq (base_of x) (base_of y) && not (nat_eq (offset_of x) (offset_of y))

@@ -6,7 +6,7 @@ use Rattle.rpp_tree.specs.Tree.{Expression, Null, Lvalue}
 use Rattle.register_expressions.specs.pisa_isa.Machine.{Memory}
 use Rattle.register_expressions.specs.code_conventions.declared.registers.TheConstants.{AMOUNT, OTHER_PLACE, PLACE}
 use Rattle.register_expressions.specs.paired_code.declared.part.Symbol.{Symbol}
-use Rattle.register_expressions.specs.paired_code.Machine.{Image, with_reg}
+use Rattle.register_expressions.specs.paired_code.Machine.{Image, memory_with_reg}
 use Rattle.register_expressions.specs.paired_code.Pieces.{Outcome, Done, Trapped, Will}
 use Rattle.register_expressions.specs.roopl_semantics.Elements.{SHARED_ARRAY}
 use Rattle.register_expressions.specs.refine_form.declared.spot.Spot.{Spot}
@@ -16,8 +16,8 @@ use Rattle.register_expressions.specs.Number.{Bases, number, lvalue_read, index_
 use Rattle.register_expressions.specs.Number.{shares, update_shares, Sees, SamePlace}
 use Rattle.expr_uncompute.specs.Steps.{place_steps, fetch_steps, apart_steps}
 use Rattle.register_expressions.specs.Laws.{bases_of}
-use Rattle.expr_uncompute.specs.Laws.{Stays}
-use Rattle.expr_uncompute.specs.Promises.{free_at, CanRun, IsTrap}
+use Rattle.expr_uncompute.specs.Laws.{UpdateStays}
+use Rattle.expr_uncompute.specs.Promises.{free_at, CanEvaluate, IsTrap}
 
 -- ---- how a run ends
 
@@ -32,8 +32,8 @@ pub data TrapsWithin (code most : ℕ) : Outcome → Type 0 where
 -- ---- what a middle finds, and what it may change
 
 -- a value in `AMOUNT`, and the addresses of a place and of a second one, over other cells
-abbrev pub found : (v a a' : ℕ) → List ℕ → Memory → Memory
-found v a a' cells m = record (with_reg (with_reg (with_reg m AMOUNT v) PLACE a) OTHER_PLACE a')
+abbrev pub found_memory : (v a a' : ℕ) → List ℕ → Memory → Memory
+found_memory v a a' cells m = record (memory_with_reg (memory_with_reg (memory_with_reg m AMOUNT v) PLACE a) OTHER_PLACE a')
     { cells = cells }
 
 -- the same cells, except for n words from an address on, which hold any words
@@ -59,12 +59,12 @@ pub record Encloses (im : Image) (d : Bool) (m : Memory) (low n steps v a a' : �
     (middle p : List Symbol) : Type 0 where
   pub leads : (cells' : List ℕ) (least most : ℕ) → Changes low m.cells cells' → Kept cells'
       → ((ys ys' : List ℕ) → Filled low n m.cells ys → Filled low n cells' ys' → Changes low ys ys'
-      → Will im middle d (found v a a' ys m) (LeavesWithin (found v a a' ys' m) least most))
+      → Will im middle d (found_memory v a a' ys m) (LeavesWithin (found_memory v a a' ys' m) least most))
       → Will im p d m (LeavesWithin (record m { cells = cells' }) (steps + (least + steps))
       (steps + (most + steps)))
   pub traps : (code most : ℕ)
       → ((ys : List ℕ) → Filled low n m.cells ys
-      → Will im middle d (found v a a' ys m) (TrapsWithin code most))
+      → Will im middle d (found_memory v a a' ys m) (TrapsWithin code most))
       → Will im p d m (TrapsWithin code (steps + most))
 
 -- ---- the laws
@@ -83,22 +83,21 @@ found_places_steps source target = place_steps source + place_steps target + apa
     (index_of source) (index_of target)
 
 -- a middle that changes a place: the place's fault comes first, and then that of a shared array, in
--- both
--- directions
+-- both directions
 pub record PlaceAroundLaw (spot : List ℕ → Spot) (free : ℕ) (target : Lvalue)
     (middle p : List Symbol) : Type 0 where
   pub encloses : (im : Image) (d : Bool) (m : Memory)
-      → CanRun spot free (place_words target) (lvalue_read target) (Null 0) m → (a : ℕ)
+      → CanEvaluate spot free (place_words target) (lvalue_read target) (Null 0) m → (a : ℕ)
       → place_address spot (bases_of m) m.cells target ≡ Ok a
       → update_shares spot (bases_of m) m.cells target (Null 0) ≡ false
       → Encloses im d m (free_at free m) (place_words target) (found_place_steps target) 0 a 0
-      (Stays spot (bases_of m) (free_at free m) target (Null 0) m.cells) middle p
+      (UpdateStays spot (bases_of m) (free_at free m) target (Null 0) m.cells) middle p
   pub place_faults : (im : Image) (d : Bool) (m : Memory)
-      → CanRun spot free (place_words target) (lvalue_read target) (Null 0) m → (code : ℕ)
+      → CanEvaluate spot free (place_words target) (lvalue_read target) (Null 0) m → (code : ℕ)
       → place_address spot (bases_of m) m.cells target ≡ Err code
       → IsTrap im p d m code (place_steps target)
   pub sharing_faults : (im : Image) (d : Bool) (m : Memory)
-      → CanRun spot free (place_words target) (lvalue_read target) (Null 0) m → (a : ℕ)
+      → CanEvaluate spot free (place_words target) (lvalue_read target) (Null 0) m → (a : ℕ)
       → place_address spot (bases_of m) m.cells target ≡ Ok a
       → update_shares spot (bases_of m) m.cells target (Null 0) ≡ true
       → IsTrap im p d m SHARED_ARRAY (found_place_steps target)
@@ -107,24 +106,24 @@ pub record PlaceAroundLaw (spot : List ℕ → Spot) (free : ℕ) (target : Lval
 pub record ValueAroundLaw (spot : List ℕ → Spot) (free : ℕ) (target : Lvalue) (value : Expression)
     (middle p : List Symbol) : Type 0 where
   pub encloses : (im : Image) (d : Bool) (m : Memory)
-      → CanRun spot free (place_words target + words value) (lvalue_read target) value m → (a v : ℕ)
+      → CanEvaluate spot free (place_words target + words value) (lvalue_read target) value m → (a v : ℕ)
       → place_address spot (bases_of m) m.cells target ≡ Ok a
       → number spot (bases_of m) m.cells value ≡ Ok v
       → update_shares spot (bases_of m) m.cells target value ≡ false
       → Encloses im d m (free_at free m) (place_words target + words value)
       (found_value_steps target value) v a
-      0 (Stays spot (bases_of m) (free_at free m) target value m.cells) middle p
+      0 (UpdateStays spot (bases_of m) (free_at free m) target value m.cells) middle p
   pub place_faults : (im : Image) (d : Bool) (m : Memory)
-      → CanRun spot free (place_words target + words value) (lvalue_read target) value m → (code : ℕ)
+      → CanEvaluate spot free (place_words target + words value) (lvalue_read target) value m → (code : ℕ)
       → place_address spot (bases_of m) m.cells target ≡ Err code
       → IsTrap im p d m code (place_steps target)
   pub value_faults : (im : Image) (d : Bool) (m : Memory)
-      → CanRun spot free (place_words target + words value) (lvalue_read target) value m → (a code : ℕ)
+      → CanEvaluate spot free (place_words target + words value) (lvalue_read target) value m → (a code : ℕ)
       → place_address spot (bases_of m) m.cells target ≡ Ok a
       → number spot (bases_of m) m.cells value ≡ Err code
       → IsTrap im p d m code (place_steps target + fetch_steps value)
   pub sharing_faults : (im : Image) (d : Bool) (m : Memory)
-      → CanRun spot free (place_words target + words value) (lvalue_read target) value m → (a v : ℕ)
+      → CanEvaluate spot free (place_words target + words value) (lvalue_read target) value m → (a v : ℕ)
       → place_address spot (bases_of m) m.cells target ≡ Ok a
       → number spot (bases_of m) m.cells value ≡ Ok v
       → update_shares spot (bases_of m) m.cells target value ≡ true
@@ -144,7 +143,7 @@ pub record PlacesStay (spot : List ℕ → Spot) (b : Bases) (low : ℕ) (source
 pub record PlacesAroundLaw (spot : List ℕ → Spot) (free : ℕ) (source target : Lvalue)
     (middle p : List Symbol) : Type 0 where
   pub encloses : (im : Image) (d : Bool) (m : Memory)
-      → CanRun spot free (place_words source + place_words target) (lvalue_read source) (lvalue_read target)
+      → CanEvaluate spot free (place_words source + place_words target) (lvalue_read source) (lvalue_read target)
       m
       → (a a' : ℕ) → place_address spot (bases_of m) m.cells source ≡ Ok a
       → place_address spot (bases_of m) m.cells target ≡ Ok a'
@@ -153,18 +152,18 @@ pub record PlacesAroundLaw (spot : List ℕ → Spot) (free : ℕ) (source targe
       (found_places_steps source target) 0 a a'
       (PlacesStay spot (bases_of m) (free_at free m) source target m.cells) middle p
   pub source_faults : (im : Image) (d : Bool) (m : Memory)
-      → CanRun spot free (place_words source + place_words target) (lvalue_read source) (lvalue_read target)
+      → CanEvaluate spot free (place_words source + place_words target) (lvalue_read source) (lvalue_read target)
       m
       → (code : ℕ) → place_address spot (bases_of m) m.cells source ≡ Err code
       → IsTrap im p d m code (place_steps source)
   pub target_faults : (im : Image) (d : Bool) (m : Memory)
-      → CanRun spot free (place_words source + place_words target) (lvalue_read source) (lvalue_read target)
+      → CanEvaluate spot free (place_words source + place_words target) (lvalue_read source) (lvalue_read target)
       m
       → (a code : ℕ) → place_address spot (bases_of m) m.cells source ≡ Ok a
       → place_address spot (bases_of m) m.cells target ≡ Err code
       → IsTrap im p d m code (place_steps source + place_steps target)
   pub sharing_faults : (im : Image) (d : Bool) (m : Memory)
-      → CanRun spot free (place_words source + place_words target) (lvalue_read source) (lvalue_read target)
+      → CanEvaluate spot free (place_words source + place_words target) (lvalue_read source) (lvalue_read target)
       m
       → (a a' : ℕ) → place_address spot (bases_of m) m.cells source ≡ Ok a
       → place_address spot (bases_of m) m.cells target ≡ Ok a'

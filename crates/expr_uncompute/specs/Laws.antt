@@ -9,13 +9,13 @@ use Rattle.register_expressions.specs.Number.{Bases, lvalue_read, update_shares,
 use Rattle.register_expressions.specs.Number.{Same, SamePlace}
 
 -- what an update does in a direction
-abbrev pub turned : Bool → UpdateOp → UpdateOp
-turned false op = op
-turned true op = inverse_operator op
+abbrev pub turned_operator : Bool → UpdateOp → UpdateOp
+turned_operator false op = op
+turned_operator true op = inverse_operator op
 
 -- the cells with the word at an address updated
 abbrev pub updated_at : Bool → UpdateOp → (a v : ℕ) → List ℕ → List ℕ
-updated_at d op a v cells = slice_set cells a (updated (turned d op) (slice_index cells a) v)
+updated_at d op a v cells = slice_set cells a (updated (turned_operator d op) (slice_index cells a) v)
 
 -- the cells with two words swapped; if they are one, nothing changes
 abbrev pub swapped_at : (p q : ℕ) → List ℕ → List ℕ
@@ -23,7 +23,7 @@ swapped_at p q cells = slice_set (slice_set cells p (slice_index cells q)) q (sl
 
 -- after a write all that the place and the value read is where it was, and says the same, and no
 -- array is shared
-pub record Stays (spot : List ℕ → Spot) (b : Bases) (low : ℕ) (target : Lvalue) (value : Expression)
+pub record UpdateStays (spot : List ℕ → Spot) (b : Bases) (low : ℕ) (target : Lvalue) (value : Expression)
     (cells cells' : List ℕ) : Type 0 where
   pub place_sees : Sees spot b low cells' (lvalue_read target)
   pub value_sees : Sees spot b low cells' value

@@ -11,7 +11,7 @@ use Rattle.register_expressions.specs.roopl_semantics.Store.{object_at}
 use Rattle.register_expressions.specs.roopl_semantics.Value.{Cell, Slot, Part, cell_named, variable_value, read, value}
 use Rattle.register_expressions.specs.roopl_semantics.Value.{cell_of}
 use Rattle.register_expressions.specs.refine_form.declared.spot.Spot.{Spot}
-use Rattle.register_expressions.specs.Number.{Bases, address_of, word_of}
+use Rattle.register_expressions.specs.Number.{Bases, spot_address, word_of}
 
 -- the operators that also compare references
 abbrev pub is_equation : BinOp → Bool
@@ -84,7 +84,7 @@ module _ (address slot : ℕ → ℕ) where
 
     -- the same of a place
     abbrev pub MeansPlace : Lvalue → Type 0
-    MeansPlace (Whole name) = address_of b (spot name.text)
+    MeansPlace (Whole name) = spot_address b (spot name.text)
         ≡ cell_address (cell_named program st name.text)
     MeansPlace (Item name index) = HasWord name.text
         × StandsArray (variable_value program st name.text) × IsInt (value program st index)

@@ -5,7 +5,7 @@ use Rattle.rpp_tree.specs.Tree.{Expression, Lvalue}
 use Rattle.register_expressions.specs.pisa_isa.Machine.{Memory}
 use Rattle.register_expressions.specs.code_conventions.declared.registers.TheConstants.{FRAME}
 use Rattle.register_expressions.specs.paired_code.declared.part.Symbol.{Symbol}
-use Rattle.register_expressions.specs.paired_code.Machine.{Image, reg}
+use Rattle.register_expressions.specs.paired_code.Machine.{Image, memory_reg}
 use Rattle.register_expressions.specs.paired_code.Pieces.{Done, Trapped, Runs}
 use Rattle.register_expressions.specs.roopl_semantics.Elements.{SHARED_ARRAY}
 use Rattle.register_expressions.specs.refine_form.declared.spot.Spot.{Spot}
@@ -16,30 +16,30 @@ use Rattle.register_expressions.specs.Number.{update_shares, swap_shares, Sees}
 use Rattle.expr_uncompute.specs.Steps.{value_steps, test_steps, place_steps, fetch_steps}
 use Rattle.expr_uncompute.specs.Steps.{apart_steps, both_apart_steps, update_steps, swap_steps}
 use Rattle.register_expressions.specs.Laws.{bases_of, Ready, Xored, truth_of}
-use Rattle.expr_uncompute.specs.Laws.{updated_at, swapped_at, Stays, BothStay}
+use Rattle.expr_uncompute.specs.Laws.{updated_at, swapped_at, UpdateStays, BothStay}
 
 -- where the free words of the frame begin: all that is read is below
 abbrev pub free_at : ℕ → Memory → ℕ
-free_at free m = reg m FRAME + free
+free_at free m = memory_reg m FRAME + free
 
 abbrev pub SeesIn : (List ℕ → Spot) → ℕ → Memory → Expression → Type 0
 SeesIn spot free m e = Sees spot (bases_of m) (free_at free m) m.cells e
 
 -- the number of an expression is xored into a register, or its fault is a trap, either way; nothing
 -- else differs
-pub record ValueLaw (spot : List ℕ → Spot) (free into : ℕ) (e : Expression)
+pub record ExpressionLaw (spot : List ℕ → Spot) (free into : ℕ) (e : Expression)
     (p : List Symbol) : Type 0 where
   pub xors : (im : Image) (d : Bool) (m : Memory) → Ready free (words e) m → SeesIn spot free m e
       → Xored into (value_steps e) m (number spot (bases_of m) m.cells e) im p d
 
 -- the truth value of it
-pub record TestLaw (spot : List ℕ → Spot) (free into : ℕ) (e : Expression)
+pub record ConditionLaw (spot : List ℕ → Spot) (free into : ℕ) (e : Expression)
     (p : List Symbol) : Type 0 where
   pub xors : (im : Image) (d : Bool) (m : Memory) → Ready free (words e) m → SeesIn spot free m e
       → Xored into (test_steps e) m (truth_of (number spot (bases_of m) m.cells e)) im p d
 
 -- what a statement on places needs
-pub record CanRun (spot : List ℕ → Spot) (free n : ℕ) (e e' : Expression) (m : Memory) : Type 0
+pub record CanEvaluate (spot : List ℕ → Spot) (free n : ℕ) (e e' : Expression) (m : Memory) : Type 0
   where
     pub ready : Ready free n m
     pub first : SeesIn spot free m e
@@ -54,24 +54,24 @@ IsTrap im p d m code steps = (k : ℕ) × (k ≤ steps) × Runs im p d m (Trappe
 pub record UpdateLaw (spot : List ℕ → Spot) (free : ℕ) (op : UpdateOp) (target : Lvalue)
     (value : Expression) (p : List Symbol) : Type 0 where
   pub updates : (im : Image) (d : Bool) (m : Memory)
-      → CanRun spot free (place_words target + words value) (lvalue_read target) value m → (a v : ℕ)
+      → CanEvaluate spot free (place_words target + words value) (lvalue_read target) value m → (a v : ℕ)
       → place_address spot (bases_of m) m.cells target ≡ Ok a
       → number spot (bases_of m) m.cells value ≡ Ok v
       → update_shares spot (bases_of m) m.cells target value ≡ false
-      → Stays spot (bases_of m) (free_at free m) target value m.cells (updated_at d op a v m.cells)
+      → UpdateStays spot (bases_of m) (free_at free m) target value m.cells (updated_at d op a v m.cells)
       → Runs im p d m (Done (record m { cells = updated_at d op a v m.cells })
       (update_steps target value))
   pub place_faults : (im : Image) (d : Bool) (m : Memory)
-      → CanRun spot free (place_words target + words value) (lvalue_read target) value m → (code : ℕ)
+      → CanEvaluate spot free (place_words target + words value) (lvalue_read target) value m → (code : ℕ)
       → place_address spot (bases_of m) m.cells target ≡ Err code
       → IsTrap im p d m code (place_steps target)
   pub value_faults : (im : Image) (d : Bool) (m : Memory)
-      → CanRun spot free (place_words target + words value) (lvalue_read target) value m → (a code : ℕ)
+      → CanEvaluate spot free (place_words target + words value) (lvalue_read target) value m → (a code : ℕ)
       → place_address spot (bases_of m) m.cells target ≡ Ok a
       → number spot (bases_of m) m.cells value ≡ Err code
       → IsTrap im p d m code (place_steps target + fetch_steps value)
   pub sharing_faults : (im : Image) (d : Bool) (m : Memory)
-      → CanRun spot free (place_words target + words value) (lvalue_read target) value m → (a v : ℕ)
+      → CanEvaluate spot free (place_words target + words value) (lvalue_read target) value m → (a v : ℕ)
       → place_address spot (bases_of m) m.cells target ≡ Ok a
       → number spot (bases_of m) m.cells value ≡ Ok v
       → update_shares spot (bases_of m) m.cells target value ≡ true
@@ -82,23 +82,23 @@ pub record UpdateLaw (spot : List ℕ → Spot) (free : ℕ) (op : UpdateOp) (ta
 pub record SwapLaw (spot : List ℕ → Spot) (free : ℕ) (left right : Lvalue)
     (p : List Symbol) : Type 0 where
   pub swaps : (im : Image) (d : Bool) (m : Memory)
-      → CanRun spot free (place_words left + place_words right) (lvalue_read left) (lvalue_read right) m
+      → CanEvaluate spot free (place_words left + place_words right) (lvalue_read left) (lvalue_read right) m
       → (a a' : ℕ) → place_address spot (bases_of m) m.cells left ≡ Ok a
       → place_address spot (bases_of m) m.cells right ≡ Ok a'
       → swap_shares spot (bases_of m) m.cells left right ≡ false
       → BothStay spot (bases_of m) (free_at free m) left right m.cells (swapped_at a a' m.cells)
       → Runs im p d m (Done (record m { cells = swapped_at a a' m.cells }) (swap_steps left right))
   pub left_faults : (im : Image) (d : Bool) (m : Memory)
-      → CanRun spot free (place_words left + place_words right) (lvalue_read left) (lvalue_read right) m
+      → CanEvaluate spot free (place_words left + place_words right) (lvalue_read left) (lvalue_read right) m
       → (code : ℕ) → place_address spot (bases_of m) m.cells left ≡ Err code
       → IsTrap im p d m code (place_steps left)
   pub right_faults : (im : Image) (d : Bool) (m : Memory)
-      → CanRun spot free (place_words left + place_words right) (lvalue_read left) (lvalue_read right) m
+      → CanEvaluate spot free (place_words left + place_words right) (lvalue_read left) (lvalue_read right) m
       → (a code : ℕ) → place_address spot (bases_of m) m.cells left ≡ Ok a
       → place_address spot (bases_of m) m.cells right ≡ Err code
       → IsTrap im p d m code (place_steps left + place_steps right)
   pub sharing_faults : (im : Image) (d : Bool) (m : Memory)
-      → CanRun spot free (place_words left + place_words right) (lvalue_read left) (lvalue_read right) m
+      → CanEvaluate spot free (place_words left + place_words right) (lvalue_read left) (lvalue_read right) m
       → (a a' : ℕ) → place_address spot (bases_of m) m.cells left ≡ Ok a
       → place_address spot (bases_of m) m.cells right ≡ Ok a'
       → swap_shares spot (bases_of m) m.cells left right ≡ true

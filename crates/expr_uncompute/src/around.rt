@@ -6,9 +6,9 @@ ghost use Rattle.register_expressions.specs.roopl_semantics.Elements.{elements, 
 ghost use Rattle.register_expressions.specs.Code.{words as words_of};
 ghost use Rattle.expr_uncompute.specs.Code.{place_words as words_of_place};
 ghost use Rattle.expr_uncompute.specs.Found.{PlaceAroundLaw, ValueAroundLaw, PlacesAroundLaw, found_place_steps, found_value_steps, found_places_steps};
-ghost use Rattle.register_expressions.specs.Steps.{tokens};
+ghost use Rattle.register_expressions.specs.Steps.{token_count};
 ghost use Rattle.expr_uncompute.specs.Steps.{place_tokens};
-ghost use Rattle.register_expressions.specs.code_scope.Visible.{spot_of, free_of, known_in};
+ghost use Rattle.register_expressions.specs.code_scope.Visible.{spot_of, free_words_of, known_in};
 
 use crate::middles::{around_place, around_places, around_value};
 use code_conventions::memory::EXPRESSION_WORDS;
@@ -32,7 +32,7 @@ pub fn place_around(
     requires room { words_of_place (lvalue_of place.now) ≤ EXPRESSION_WORDS }
     requires marks { middle.marks ≡ [] }
     ensures law { IfOk result (λ p.
-        PlaceAroundLaw (spot_of (known_in scope.now)) (free_of (known_in scope.now))
+        PlaceAroundLaw (spot_of (known_in scope.now)) (free_words_of (known_in scope.now))
         (lvalue_of place.now) middle.cells p.cells) }
     ensures marks { IfOk result (λ p. p.marks ≡ []) }
     ensures steps { 2 * found_place_steps (lvalue_of place.now) ≤ 162 *
@@ -58,7 +58,7 @@ pub fn place_and_value_around(
         EXPRESSION_WORDS }
     requires marks { middle.marks ≡ [] }
     ensures law { IfOk result (λ p.
-        ValueAroundLaw (spot_of (known_in scope.now)) (free_of (known_in scope.now))
+        ValueAroundLaw (spot_of (known_in scope.now)) (free_words_of (known_in scope.now))
         (lvalue_of place.now) (expression_of value.now) middle.cells p.cells) }
     ensures marks { IfOk result (λ p. p.marks ≡ []) }
     ensures steps { 2 * found_value_steps (lvalue_of place.now) (expression_of value.now) ≤ 162 *
@@ -67,7 +67,7 @@ pub fn place_and_value_around(
         (index_elements (lvalue_of place.now) ++ elements (expression_of value.now))) }
     ensures size { IfOk result (λ p.
         length p.cells ≤ length middle.cells + 80 *
-        (place_tokens (lvalue_of place.now) + tokens (expression_of value.now))) }
+        (place_tokens (lvalue_of place.now) + token_count (expression_of value.now))) }
 {
     let names = scope.names();
     around_value(alloc, place, value, &names, middle)
@@ -87,7 +87,7 @@ pub fn places_around(
         EXPRESSION_WORDS }
     requires marks { middle.marks ≡ [] }
     ensures law { IfOk result (λ p.
-        PlacesAroundLaw (spot_of (known_in scope.now)) (free_of (known_in scope.now))
+        PlacesAroundLaw (spot_of (known_in scope.now)) (free_words_of (known_in scope.now))
         (lvalue_of source.now) (lvalue_of target.now) middle.cells p.cells) }
     ensures marks { IfOk result (λ p. p.marks ≡ []) }
     ensures steps { 2 * found_places_steps (lvalue_of source.now) (lvalue_of target.now) ≤ 304 *

@@ -5,11 +5,11 @@ ghost use Rattle.rpp_tree.specs.Views.{expression_of, lvalue_of};
 ghost use Rattle.register_expressions.specs.roopl_semantics.Elements.{elements, index_elements, own_element, read_cost};
 ghost use Rattle.register_expressions.specs.Code.{Target, words as words_of};
 ghost use Rattle.expr_uncompute.specs.Code.{place_words as words_of_place};
-ghost use Rattle.expr_uncompute.specs.Promises.{ValueLaw, TestLaw, UpdateLaw, SwapLaw};
+ghost use Rattle.expr_uncompute.specs.Promises.{ExpressionLaw, ConditionLaw, UpdateLaw, SwapLaw};
 ghost use Rattle.expr_uncompute.specs.Sizes.{swap_size};
-ghost use Rattle.register_expressions.specs.Steps.{tokens};
+ghost use Rattle.register_expressions.specs.Steps.{token_count};
 ghost use Rattle.expr_uncompute.specs.Steps.{value_steps, test_steps, update_steps, swap_steps, place_tokens};
-ghost use Rattle.register_expressions.specs.code_scope.Visible.{spot_of, free_of, known_in};
+ghost use Rattle.register_expressions.specs.code_scope.Visible.{spot_of, free_words_of, known_in};
 
 use crate::places::{swap_piece, update_piece};
 use crate::values::{test_piece, value_piece};
@@ -30,11 +30,11 @@ pub fn value_code(alloc: Global, e: &Expr, scope: &Scope, into: u8) -> Result<Pi
     requires register { Target into }
     requires room { words_of (expression_of e.now) ≤ EXPRESSION_WORDS }
     ensures law { IfOk result (λ p.
-        ValueLaw (spot_of (known_in scope.now)) (free_of (known_in scope.now)) into
+        ExpressionLaw (spot_of (known_in scope.now)) (free_words_of (known_in scope.now)) into
         (expression_of e.now) p.cells) }
     ensures marks { IfOk result (λ p. p.marks ≡ []) }
     ensures steps { value_steps (expression_of e.now) ≤ 162 * nodes (expression_of e.now) }
-    ensures size { IfOk result (λ p. length p.cells ≤ 58 * tokens (expression_of e.now)) }
+    ensures size { IfOk result (λ p. length p.cells ≤ 58 * token_count (expression_of e.now)) }
 {
     let names = scope.names();
     value_piece(alloc, e, &names, into)
@@ -45,11 +45,11 @@ pub fn test_code(alloc: Global, e: &Expr, scope: &Scope, into: u8) -> Result<Pie
     requires register { Target into }
     requires room { words_of (expression_of e.now) ≤ EXPRESSION_WORDS }
     ensures law { IfOk result (λ p.
-        TestLaw (spot_of (known_in scope.now)) (free_of (known_in scope.now)) into
+        ConditionLaw (spot_of (known_in scope.now)) (free_words_of (known_in scope.now)) into
         (expression_of e.now) p.cells) }
     ensures marks { IfOk result (λ p. p.marks ≡ []) }
     ensures steps { test_steps (expression_of e.now) ≤ 162 * nodes (expression_of e.now) }
-    ensures size { IfOk result (λ p. length p.cells ≤ 58 * tokens (expression_of e.now)) }
+    ensures size { IfOk result (λ p. length p.cells ≤ 58 * token_count (expression_of e.now)) }
 {
     let names = scope.names();
     test_piece(alloc, e, &names, into)
@@ -69,7 +69,7 @@ pub fn update_code(
     requires room { words_of_place (lvalue_of place.now) + words_of (expression_of value.now) ≤
         EXPRESSION_WORDS }
     ensures law { IfOk result (λ p.
-        UpdateLaw (spot_of (known_in scope.now)) (free_of (known_in scope.now)) op
+        UpdateLaw (spot_of (known_in scope.now)) (free_words_of (known_in scope.now)) op
         (lvalue_of place.now) (expression_of value.now) p.cells) }
     ensures marks { IfOk result (λ p. p.marks ≡ []) }
     ensures steps { update_steps (lvalue_of place.now) (expression_of value.now) ≤ 162 *
@@ -77,7 +77,7 @@ pub fn update_code(
         (own_element (lvalue_of place.now))
         (index_elements (lvalue_of place.now) ++ elements (expression_of value.now))) }
     ensures size { IfOk result (λ p.
-        length p.cells ≤ 80 * (place_tokens (lvalue_of place.now) + 1 + tokens
+        length p.cells ≤ 80 * (place_tokens (lvalue_of place.now) + 1 + token_count
         (expression_of value.now))) }
 {
     let names = scope.names();
@@ -95,7 +95,7 @@ pub fn swap_code(
     requires room { words_of_place (lvalue_of left.now) + words_of_place (lvalue_of right.now) ≤
         EXPRESSION_WORDS }
     ensures law { IfOk result (λ p.
-        SwapLaw (spot_of (known_in scope.now)) (free_of (known_in scope.now)) (lvalue_of left.now)
+        SwapLaw (spot_of (known_in scope.now)) (free_words_of (known_in scope.now)) (lvalue_of left.now)
         (lvalue_of right.now) p.cells) }
     ensures marks { IfOk result (λ p. p.marks ≡ []) }
     ensures steps { swap_steps (lvalue_of left.now) (lvalue_of right.now) ≤ 304 *

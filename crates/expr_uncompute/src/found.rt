@@ -4,7 +4,7 @@ ghost use Rattle.rpp_tree.specs.Views.{expression_of, lvalue_of};
 ghost use Rattle.register_expressions.specs.paired_code.Code.{unmarked};
 ghost use Rattle.register_expressions.specs.Code.{xor as xor_cell, addi as addi_cell, base_of, words as words_of};
 ghost use Rattle.expr_uncompute.specs.Code.{place_words as words_of_place, fetch_cells, place_cells, found_place_cells, found_value_cells, found_places_cells};
-ghost use Rattle.register_expressions.specs.code_scope.Visible.{offset_of, spot_of as spot_of_name, free_of, known_by};
+ghost use Rattle.register_expressions.specs.code_scope.Visible.{offset_of, spot_of as spot_of_name, free_words_of, known_by};
 
 use crate::apart::{apart, apart_from, own_apart};
 use crate::values::{checked, open, parts, place_words, prepare, result_register};
@@ -44,7 +44,7 @@ pub fn place_code(
     requires register { into < 32 }
     requires room { i + words_of_place (lvalue_of place.now) ≤ EXPRESSION_WORDS }
     ensures { IfOk result (λ p.
-        p ≡ unmarked (place_cells (spot_of_name (known_by names.now)) (free_of (known_by names.now))
+        p ≡ unmarked (place_cells (spot_of_name (known_by names.now)) (free_words_of (known_by names.now))
         (lvalue_of place.now) i into)) }
 {
     match &place.index {
@@ -65,7 +65,7 @@ pub fn place_code(
 pub fn fetch_code(alloc: Global, names: &Names, e: &Expr, i: u32) -> Result<Piece, NoMemory>
     requires { i + words_of (expression_of e.now) ≤ EXPRESSION_WORDS }
     ensures { IfOk result (λ p.
-        p ≡ unmarked (fetch_cells (spot_of_name (known_by names.now)) (free_of (known_by names.now))
+        p ≡ unmarked (fetch_cells (spot_of_name (known_by names.now)) (free_words_of (known_by names.now))
         (expression_of e.now) i AMOUNT)) }
 {
     let front = parts(alloc, names, e, i)?;
@@ -80,7 +80,7 @@ pub fn found_place(alloc: Global, place: &Place, names: &Names) -> Result<Piece,
     requires room { words_of_place (lvalue_of place.now) ≤ EXPRESSION_WORDS }
     ensures { IfOk result (λ p.
         p ≡ unmarked (found_place_cells (spot_of_name (known_by names.now))
-        (free_of (known_by names.now)) (lvalue_of place.now))) }
+        (free_words_of (known_by names.now)) (lvalue_of place.now))) }
 {
     let found = place_code(alloc, names, place, 0, PLACE)?;
     let check = own_apart(alloc, names, place)?;
@@ -98,7 +98,7 @@ pub fn found_value(
         EXPRESSION_WORDS }
     ensures { IfOk result (λ p.
         p ≡ unmarked (found_value_cells (spot_of_name (known_by names.now))
-        (free_of (known_by names.now)) (lvalue_of place.now) (expression_of value.now))) }
+        (free_words_of (known_by names.now)) (lvalue_of place.now) (expression_of value.now))) }
 {
     let found = place_code(alloc, names, place, 0, PLACE)?;
     let fetched = fetch_code(alloc, names, value, place_words(place))?;
@@ -118,8 +118,8 @@ pub fn both_places(
         EXPRESSION_WORDS }
     ensures { IfOk result (λ p.
         p ≡ unmarked (place_cells (spot_of_name (known_by names.now))
-        (free_of (known_by names.now)) (lvalue_of left.now) 0 PLACE ++ place_cells
-        (spot_of_name (known_by names.now)) (free_of (known_by names.now)) (lvalue_of right.now)
+        (free_words_of (known_by names.now)) (lvalue_of left.now) 0 PLACE ++ place_cells
+        (spot_of_name (known_by names.now)) (free_words_of (known_by names.now)) (lvalue_of right.now)
         (words_of_place (lvalue_of left.now)) OTHER_PLACE)) }
 {
     let first = place_code(alloc, names, left, 0, PLACE)?;
@@ -138,7 +138,7 @@ pub fn found_places(
         EXPRESSION_WORDS }
     ensures { IfOk result (λ p.
         p ≡ unmarked (found_places_cells (spot_of_name (known_by names.now))
-        (free_of (known_by names.now)) (lvalue_of source.now) (lvalue_of target.now))) }
+        (free_words_of (known_by names.now)) (lvalue_of source.now) (lvalue_of target.now))) }
 {
     let places = both_places(alloc, source, target, names)?;
     let check = apart_from(alloc, names, target, source, target)?;

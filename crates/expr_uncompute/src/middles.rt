@@ -5,9 +5,9 @@ ghost use Rattle.register_expressions.specs.paired_code.Code.{unmarked};
 ghost use Rattle.register_expressions.specs.Code.{around, words as words_of};
 ghost use Rattle.expr_uncompute.specs.Code.{place_words as words_of_place, found_place_cells, found_value_cells, found_places_cells};
 ghost use Rattle.expr_uncompute.specs.Found.{PlaceAroundLaw, ValueAroundLaw, PlacesAroundLaw};
-ghost use Rattle.register_expressions.specs.Steps.{tokens};
+ghost use Rattle.register_expressions.specs.Steps.{token_count};
 ghost use Rattle.expr_uncompute.specs.Steps.{place_tokens};
-ghost use Rattle.register_expressions.specs.code_scope.Visible.{spot_of as spot_of_name, free_of, known_by};
+ghost use Rattle.register_expressions.specs.code_scope.Visible.{spot_of as spot_of_name, free_words_of, known_by};
 
 use crate::found::{found_place, found_places, found_value};
 use code_conventions::memory::EXPRESSION_WORDS;
@@ -28,11 +28,11 @@ pub fn around_place(
     requires room { words_of_place (lvalue_of place.now) ≤ EXPRESSION_WORDS }
     requires marks { middle.marks ≡ [] }
     ensures law { IfOk result (λ p.
-        PlaceAroundLaw (spot_of_name (known_by names.now)) (free_of (known_by names.now))
+        PlaceAroundLaw (spot_of_name (known_by names.now)) (free_words_of (known_by names.now))
         (lvalue_of place.now) middle.cells p.cells) }
     ensures code { IfOk result (λ p.
         p ≡ unmarked (around (found_place_cells (spot_of_name (known_by names.now))
-        (free_of (known_by names.now)) (lvalue_of place.now)) middle.cells)) }
+        (free_words_of (known_by names.now)) (lvalue_of place.now)) middle.cells)) }
     ensures size { IfOk result (λ p.
         length p.cells ≤ length middle.cells + 80 * (1 + place_tokens (lvalue_of place.now))) }
 {
@@ -51,14 +51,14 @@ pub fn around_value(
     requires room { words_of_place (lvalue_of place.now) + words_of (expression_of value.now) ≤ EXPRESSION_WORDS }
     requires marks { middle.marks ≡ [] }
     ensures law { IfOk result (λ p.
-        ValueAroundLaw (spot_of_name (known_by names.now)) (free_of (known_by names.now))
+        ValueAroundLaw (spot_of_name (known_by names.now)) (free_words_of (known_by names.now))
         (lvalue_of place.now) (expression_of value.now) middle.cells p.cells) }
     ensures code { IfOk result (λ p.
         p ≡ unmarked (around (found_value_cells (spot_of_name (known_by names.now))
-        (free_of (known_by names.now)) (lvalue_of place.now) (expression_of value.now)) middle.cells)) }
+        (free_words_of (known_by names.now)) (lvalue_of place.now) (expression_of value.now)) middle.cells)) }
     ensures size { IfOk result (λ p.
         length p.cells ≤ length middle.cells + 80 *
-        (place_tokens (lvalue_of place.now) + tokens (expression_of value.now))) }
+        (place_tokens (lvalue_of place.now) + token_count (expression_of value.now))) }
 {
     let outer = found_value(alloc, place, value, names)?;
     enclosed(alloc, outer, middle)
@@ -76,11 +76,11 @@ pub fn around_places(
         EXPRESSION_WORDS }
     requires marks { middle.marks ≡ [] }
     ensures law { IfOk result (λ p.
-        PlacesAroundLaw (spot_of_name (known_by names.now)) (free_of (known_by names.now))
+        PlacesAroundLaw (spot_of_name (known_by names.now)) (free_words_of (known_by names.now))
         (lvalue_of source.now) (lvalue_of target.now) middle.cells p.cells) }
     ensures code { IfOk result (λ p.
         p ≡ unmarked (around (found_places_cells (spot_of_name (known_by names.now))
-        (free_of (known_by names.now)) (lvalue_of source.now) (lvalue_of target.now)) middle.cells)) }
+        (free_words_of (known_by names.now)) (lvalue_of source.now) (lvalue_of target.now)) middle.cells)) }
     ensures size { IfOk result (λ p.
         length p.cells ≤ length middle.cells + 80 *
         (place_tokens (lvalue_of source.now) + place_tokens (lvalue_of target.now))) }

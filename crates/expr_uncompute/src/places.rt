@@ -4,14 +4,14 @@ ghost use Rattle.rpp_tree.specs.Tree.{Whole, Item};
 ghost use Rattle.rpp_tree.specs.Views.{expression_of, lvalue_of};
 ghost use Rattle.register_expressions.specs.paired_code.Code.{unmarked};
 ghost use Rattle.register_expressions.specs.Code.{words as words_of, around, reach_cells, base_of, addi as addi_cell};
-ghost use Rattle.expr_uncompute.specs.Code.{place_words as words_of_place, update_cell as cell_of_update, number_cell as cell_of_number, onward as onward_cell, from_object as onward_from_object, from_frame as onward_from_frame_cell, both_reached as both_reached_cells, found_update_cells, held_update_cells, operated_update_cells, whole_update_cells, near_middle as near_middle_cells, near_place_cells, near_update_cells, item_update_cells, update_cells, four_exchanges as four_of, swap_at as swap_at_cells, beyond as beyond_cells, swap_by_one as swap_by_one_cells, have_one_base as one_base, swap_spots as swap_spots_cells, found_swap_cells, near_swap_cells, whole_swap_cells, item_swap_cells, swap_cells};
+ghost use Rattle.expr_uncompute.specs.Code.{place_words as words_of_place, update_cell as cell_of_update, number_cell as cell_of_number, onward_cell as onward_cell, from_object as onward_from_object, from_frame as onward_from_frame_cell, both_reached as both_reached_cells, found_update_cells, held_update_cells, operated_update_cells, whole_update_cells, near_middle as near_middle_cells, near_place_cells, near_update_cells, item_update_cells, update_cells, four_exchanges as four_of, swap_at as swap_at_cells, beyond_cells as beyond_cells, swap_by_one as swap_by_one_cells, have_one_base as one_base, swap_spots as swap_spots_cells, found_swap_cells, near_swap_cells, whole_swap_cells, item_swap_cells, swap_cells};
 ghost use Rattle.register_expressions.specs.Held.{need as need_of};
 ghost use Rattle.register_expressions.specs.Number.{lvalue_read};
 ghost use Rattle.expr_uncompute.specs.Promises.{UpdateLaw, SwapLaw};
 ghost use Rattle.expr_uncompute.specs.Sizes.{swap_size};
-ghost use Rattle.register_expressions.specs.Steps.{tokens};
+ghost use Rattle.register_expressions.specs.Steps.{token_count};
 ghost use Rattle.expr_uncompute.specs.Steps.{place_tokens};
-ghost use Rattle.register_expressions.specs.code_scope.Visible.{offset_of, spot_of as spot_of_name, free_of, known_by};
+ghost use Rattle.register_expressions.specs.code_scope.Visible.{offset_of, spot_of as spot_of_name, free_words_of, known_by};
 
 use crate::apart::both_apart;
 use crate::found::{both_places, found_value};
@@ -136,7 +136,7 @@ fn by_value(
     requires { words_of_place (lvalue_of place.now) + words_of (expression_of value.now) ≤ EXPRESSION_WORDS }
     ensures { IfOk result (λ p.
         p ≡ unmarked (found_update_cells (spot_of_name (known_by names.now))
-        (free_of (known_by names.now)) op (lvalue_of place.now) (expression_of value.now))) }
+        (free_words_of (known_by names.now)) op (lvalue_of place.now) (expression_of value.now))) }
 {
     let outer = found_value(alloc, place, value, names)?;
     let alter = update_cell(alloc, op, AMOUNT)?;
@@ -179,7 +179,7 @@ fn whole_by_operator(
     requires whole { lvalue_of place.now ≡ Whole place.now.name }
     ensures { IfOk result (λ p.
         p ≡ unmarked (operated_update_cells (spot_of_name (known_by names.now))
-        (free_of (known_by names.now)) op place.now.name (expression_of value.now))) }
+        (free_words_of (known_by names.now)) op place.now.name (expression_of value.now))) }
 {
     if is_opened_once(value) {
         by_held(alloc, op, spot_of(names, &place.name.text), value, names)
@@ -202,7 +202,7 @@ fn whole_by_place(
     requires reads { expression_of value.now ≡ lvalue_read (lvalue_of read.now) }
     ensures { IfOk result (λ p.
         p ≡ unmarked (whole_update_cells (spot_of_name (known_by names.now))
-        (free_of (known_by names.now)) op place.now.name (expression_of value.now))) }
+        (free_words_of (known_by names.now)) op place.now.name (expression_of value.now))) }
 {
     match &read.index {
         None => by_variable(
@@ -226,7 +226,7 @@ fn whole_update(
     requires whole { lvalue_of place.now ≡ Whole place.now.name }
     ensures { IfOk result (λ p.
         p ≡ unmarked (whole_update_cells (spot_of_name (known_by names.now))
-        (free_of (known_by names.now)) op place.now.name (expression_of value.now))) }
+        (free_words_of (known_by names.now)) op place.now.name (expression_of value.now))) }
 {
     match value {
         Expr::Number { word, .. } => {
@@ -243,7 +243,7 @@ fn near_place(alloc: Global, names: &Names, name: &Text, index: &Expr) -> Result
     requires { words_of (expression_of index.now) ≤ EXPRESSION_WORDS }
     ensures { IfOk result (λ p.
         p ≡ unmarked (near_place_cells (spot_of_name (known_by names.now))
-        (free_of (known_by names.now)) name.now (expression_of index.now))) }
+        (free_words_of (known_by names.now)) name.now (expression_of index.now))) }
 {
     let front = prepare(alloc, names, index, 0)?;
     let found = checked(alloc, names, name, index, 0)?;
@@ -301,7 +301,7 @@ fn item_update(
     requires item { lvalue_of place.now ≡ Item place.now.name (expression_of index.now) }
     ensures { IfOk result (λ p.
         p ≡ unmarked (item_update_cells (spot_of_name (known_by names.now))
-        (free_of (known_by names.now)) op place.now.name (expression_of index.now)
+        (free_words_of (known_by names.now)) op place.now.name (expression_of index.now)
         (expression_of value.now))) }
 {
     if is_near(index, value) {
@@ -322,7 +322,7 @@ fn update_by_form(
     requires { words_of_place (lvalue_of place.now) + words_of (expression_of value.now) ≤ EXPRESSION_WORDS }
     ensures { IfOk result (λ p.
         p ≡ unmarked (update_cells (spot_of_name (known_by names.now))
-        (free_of (known_by names.now)) op (lvalue_of place.now) (expression_of value.now))) }
+        (free_words_of (known_by names.now)) op (lvalue_of place.now) (expression_of value.now))) }
 {
     match &place.index {
         None => whole_update(alloc, op, place, value, names),
@@ -340,13 +340,13 @@ pub fn update_piece(
 ) -> Result<Piece, NoMemory>
     requires { words_of_place (lvalue_of place.now) + words_of (expression_of value.now) ≤ EXPRESSION_WORDS }
     ensures law { IfOk result (λ p.
-        UpdateLaw (spot_of_name (known_by names.now)) (free_of (known_by names.now)) op
+        UpdateLaw (spot_of_name (known_by names.now)) (free_words_of (known_by names.now)) op
         (lvalue_of place.now) (expression_of value.now) p.cells) }
     ensures code { IfOk result (λ p.
         p ≡ unmarked (update_cells (spot_of_name (known_by names.now))
-        (free_of (known_by names.now)) op (lvalue_of place.now) (expression_of value.now))) }
+        (free_words_of (known_by names.now)) op (lvalue_of place.now) (expression_of value.now))) }
     ensures size { IfOk result (λ p.
-        length p.cells ≤ 80 * (place_tokens (lvalue_of place.now) + 1 + tokens
+        length p.cells ≤ 80 * (place_tokens (lvalue_of place.now) + 1 + token_count
         (expression_of value.now))) }
 {
     update_by_form(alloc, op, place, value, names)
@@ -431,7 +431,7 @@ fn swap_found(alloc: Global, left: &Place, right: &Place, names: &Names) -> Resu
     requires { words_of_place (lvalue_of left.now) + words_of_place (lvalue_of right.now) ≤ EXPRESSION_WORDS }
     ensures { IfOk result (λ p.
         p ≡ unmarked (found_swap_cells (spot_of_name (known_by names.now))
-        (free_of (known_by names.now)) (lvalue_of left.now) (lvalue_of right.now))) }
+        (free_words_of (known_by names.now)) (lvalue_of left.now) (lvalue_of right.now))) }
 {
     let places = both_places(alloc, left, right, names)?;
     let check = both_apart(alloc, names, left, right)?;
@@ -454,7 +454,7 @@ fn around_near(
     requires middle { middle.marks ≡ [] }
     ensures { IfOk result (λ p.
         p ≡ unmarked (around (near_place_cells (spot_of_name (known_by names.now))
-        (free_of (known_by names.now)) name.now (expression_of index.now)
+        (free_words_of (known_by names.now)) name.now (expression_of index.now)
         ++ addi_cell (base_of spot) (offset_of spot) ∷ []) middle.cells)) }
 {
     let found = near_place(alloc, names, name, index)?;
@@ -474,7 +474,7 @@ fn variable_first(
     requires room { words_of (expression_of index.now) ≤ EXPRESSION_WORDS }
     ensures { IfOk result (λ p.
         p ≡ unmarked (near_swap_cells (spot_of_name (known_by names.now))
-        (free_of (known_by names.now))
+        (free_words_of (known_by names.now))
         (base_of (spot_of_name (known_by names.now) left.now.name.text)) RIGHT
         (spot_of_name (known_by names.now) left.now.name.text) right.now.name.text
         (expression_of index.now))) }
@@ -495,7 +495,7 @@ fn variable_second(
     requires room { words_of (expression_of index.now) ≤ EXPRESSION_WORDS }
     ensures { IfOk result (λ p.
         p ≡ unmarked (near_swap_cells (spot_of_name (known_by names.now))
-        (free_of (known_by names.now)) RIGHT
+        (free_words_of (known_by names.now)) RIGHT
         (base_of (spot_of_name (known_by names.now) right.now.name.text))
         (spot_of_name (known_by names.now) right.now.name.text) left.now.name.text
         (expression_of index.now))) }
@@ -510,7 +510,7 @@ fn whole_swap(alloc: Global, left: &Place, right: &Place, names: &Names) -> Resu
     requires whole { lvalue_of left.now ≡ Whole left.now.name }
     ensures { IfOk result (λ p.
         p ≡ unmarked (whole_swap_cells (spot_of_name (known_by names.now))
-        (free_of (known_by names.now)) left.now.name (lvalue_of right.now))) }
+        (free_words_of (known_by names.now)) left.now.name (lvalue_of right.now))) }
 {
     match &right.index {
         None => swap_spots(
@@ -540,7 +540,7 @@ fn item_swap(
     requires item { lvalue_of left.now ≡ Item left.now.name (expression_of index.now) }
     ensures { IfOk result (λ p.
         p ≡ unmarked (item_swap_cells (spot_of_name (known_by names.now))
-        (free_of (known_by names.now)) left.now.name (expression_of index.now)
+        (free_words_of (known_by names.now)) left.now.name (expression_of index.now)
         (lvalue_of right.now))) }
 {
     match &right.index {
@@ -563,7 +563,7 @@ fn swap_by_form(
 ) -> Result<Piece, NoMemory>
     requires { words_of_place (lvalue_of left.now) + words_of_place (lvalue_of right.now) ≤ EXPRESSION_WORDS }
     ensures { IfOk result (λ p.
-        p ≡ unmarked (swap_cells (spot_of_name (known_by names.now)) (free_of (known_by names.now))
+        p ≡ unmarked (swap_cells (spot_of_name (known_by names.now)) (free_words_of (known_by names.now))
         (lvalue_of left.now) (lvalue_of right.now))) }
 {
     match &left.index {
@@ -581,10 +581,10 @@ pub fn swap_piece(
 ) -> Result<Piece, NoMemory>
     requires { words_of_place (lvalue_of left.now) + words_of_place (lvalue_of right.now) ≤ EXPRESSION_WORDS }
     ensures law { IfOk result (λ p.
-        SwapLaw (spot_of_name (known_by names.now)) (free_of (known_by names.now))
+        SwapLaw (spot_of_name (known_by names.now)) (free_words_of (known_by names.now))
         (lvalue_of left.now) (lvalue_of right.now) p.cells) }
     ensures code { IfOk result (λ p.
-        p ≡ unmarked (swap_cells (spot_of_name (known_by names.now)) (free_of (known_by names.now))
+        p ≡ unmarked (swap_cells (spot_of_name (known_by names.now)) (free_words_of (known_by names.now))
         (lvalue_of left.now) (lvalue_of right.now))) }
     ensures size { IfOk result (λ p.
         length p.cells ≤ swap_size (lvalue_of left.now) (lvalue_of right.now)) }

@@ -5,9 +5,9 @@ ghost use Rattle.register_expressions.specs.paired_code.Code.{unmarked};
 ghost use Rattle.register_expressions.specs.Code.{Target, words as words_of, copy_cells, nil_check as nil_cells, index_check as index_cells};
 ghost use Rattle.expr_uncompute.specs.Code.{place_words as words_of_place, operand_cells, checked_cells as checked_of, open_cells, prepare_cells, parts_cells, prepared_value_cells, prepared_test_cells, value_cells, test_cells, result_of};
 ghost use Rattle.register_expressions.specs.Number.{lvalue_read};
-ghost use Rattle.expr_uncompute.specs.Promises.{ValueLaw, TestLaw};
-ghost use Rattle.register_expressions.specs.Steps.{tokens};
-ghost use Rattle.register_expressions.specs.code_scope.Visible.{spot_of as spot_of_name, free_of, known_by};
+ghost use Rattle.expr_uncompute.specs.Promises.{ExpressionLaw, ConditionLaw};
+ghost use Rattle.register_expressions.specs.Steps.{token_count};
+ghost use Rattle.register_expressions.specs.code_scope.Visible.{spot_of as spot_of_name, free_words_of, known_by};
 
 use code_conventions::memory::EXPRESSION_WORDS;
 use code_conventions::registers::{CONTENT, ITEM, LEFT, RIGHT, TRUTH};
@@ -63,7 +63,7 @@ pub fn place_words(place: &Place) -> u32
 // A word of the frame.
 fn home(names: &Names, i: u32) -> Spot
     requires { i ≤ 2000 }
-    ensures { result ≡ Spot.Frame (free_of (known_by names.now) + i) }
+    ensures { result ≡ Spot.Frame (free_words_of (known_by names.now) + i) }
 {
     Spot::Frame(free_word(names) + i)
 }
@@ -80,7 +80,7 @@ fn operand_read(
     requires apart { into ≢ CONTENT }
     ensures { IfOk result (λ p.
         p ≡ unmarked (operand_cells (spot_of_name (known_by names.now))
-        (free_of (known_by names.now)) (lvalue_read (lvalue_of place.now)) i into)) }
+        (free_words_of (known_by names.now)) (lvalue_read (lvalue_of place.now)) i into)) }
 {
     match &place.index {
         None => copy(alloc, spot_of(names, &place.name.text), into),
@@ -95,7 +95,7 @@ pub fn operand(alloc: Global, names: &Names, e: &Expr, i: u32, into: u8) -> Resu
     requires apart { into ≢ CONTENT }
     ensures { IfOk result (λ p.
         p ≡ unmarked (operand_cells (spot_of_name (known_by names.now))
-        (free_of (known_by names.now)) (expression_of e.now) i into)) }
+        (free_words_of (known_by names.now)) (expression_of e.now) i into)) }
 {
     match e {
         Expr::Number { word, .. } => xori(alloc, into, *word),
@@ -133,7 +133,7 @@ pub fn checked(
 ) -> Result<Piece, NoMemory>
     requires { i ≤ 2000 }
     ensures { IfOk result (λ p.
-        p ≡ unmarked (checked_of (spot_of_name (known_by names.now)) (free_of (known_by names.now))
+        p ≡ unmarked (checked_of (spot_of_name (known_by names.now)) (free_words_of (known_by names.now))
         name.now (expression_of index.now) i)) }
 {
     let first = operand(alloc, names, index, i, LEFT)?;
@@ -144,7 +144,7 @@ pub fn checked(
 fn open_read(alloc: Global, names: &Names, place: &Place, i: u32) -> Result<Piece, NoMemory>
     requires { i ≤ EXPRESSION_WORDS }
     ensures { IfOk result (λ p.
-        p ≡ unmarked (open_cells (spot_of_name (known_by names.now)) (free_of (known_by names.now))
+        p ≡ unmarked (open_cells (spot_of_name (known_by names.now)) (free_words_of (known_by names.now))
         (lvalue_read (lvalue_of place.now)) i)) }
 {
     match &place.index {
@@ -163,7 +163,7 @@ fn open_read(alloc: Global, names: &Names, place: &Place, i: u32) -> Result<Piec
 pub fn open(alloc: Global, names: &Names, e: &Expr, i: u32) -> Result<Piece, NoMemory>
     requires { i + words_of (expression_of e.now) ≤ EXPRESSION_WORDS }
     ensures { IfOk result (λ p.
-        p ≡ unmarked (open_cells (spot_of_name (known_by names.now)) (free_of (known_by names.now))
+        p ≡ unmarked (open_cells (spot_of_name (known_by names.now)) (free_words_of (known_by names.now))
         (expression_of e.now) i)) }
 {
     match e {
@@ -191,7 +191,7 @@ pub fn prepare(alloc: Global, names: &Names, e: &Expr, i: u32) -> Result<Piece, 
     requires { i + words_of (expression_of e.now) ≤ EXPRESSION_WORDS }
     ensures { IfOk result (λ p.
         p ≡ unmarked (prepare_cells (spot_of_name (known_by names.now))
-        (free_of (known_by names.now)) (expression_of e.now) i)) }
+        (free_words_of (known_by names.now)) (expression_of e.now) i)) }
 {
     match e {
         Expr::Number { .. } => Ok(empty(alloc)),
@@ -219,7 +219,7 @@ fn prepare_read(alloc: Global, names: &Names, place: &Place, i: u32) -> Result<P
     requires { i + words_of (lvalue_read (lvalue_of place.now)) ≤ EXPRESSION_WORDS }
     ensures { IfOk result (λ p.
         p ≡ unmarked (prepare_cells (spot_of_name (known_by names.now))
-        (free_of (known_by names.now)) (lvalue_read (lvalue_of place.now)) i)) }
+        (free_words_of (known_by names.now)) (lvalue_read (lvalue_of place.now)) i)) }
 {
     match &place.index {
         None => Ok(empty(alloc)),
@@ -236,7 +236,7 @@ fn prepare_read(alloc: Global, names: &Names, place: &Place, i: u32) -> Result<P
 fn parts_read(alloc: Global, names: &Names, place: &Place, i: u32) -> Result<Piece, NoMemory>
     requires { i + words_of (lvalue_read (lvalue_of place.now)) ≤ EXPRESSION_WORDS }
     ensures { IfOk result (λ p.
-        p ≡ unmarked (parts_cells (spot_of_name (known_by names.now)) (free_of (known_by names.now))
+        p ≡ unmarked (parts_cells (spot_of_name (known_by names.now)) (free_words_of (known_by names.now))
         (lvalue_read (lvalue_of place.now)) i)) }
 {
     match &place.index {
@@ -249,7 +249,7 @@ fn parts_read(alloc: Global, names: &Names, place: &Place, i: u32) -> Result<Pie
 pub fn parts(alloc: Global, names: &Names, e: &Expr, i: u32) -> Result<Piece, NoMemory>
     requires { i + words_of (expression_of e.now) ≤ EXPRESSION_WORDS }
     ensures { IfOk result (λ p.
-        p ≡ unmarked (parts_cells (spot_of_name (known_by names.now)) (free_of (known_by names.now))
+        p ≡ unmarked (parts_cells (spot_of_name (known_by names.now)) (free_words_of (known_by names.now))
         (expression_of e.now) i)) }
 {
     match e {
@@ -294,7 +294,7 @@ fn prepared_value(alloc: Global, e: &Expr, names: &Names, into: u8) -> Result<Pi
     requires room { words_of (expression_of e.now) ≤ EXPRESSION_WORDS }
     ensures { IfOk result (λ p.
         p ≡ unmarked (prepared_value_cells (spot_of_name (known_by names.now))
-        (free_of (known_by names.now)) (expression_of e.now) into)) }
+        (free_words_of (known_by names.now)) (expression_of e.now) into)) }
 {
     let outer = parts(alloc, names, e, 0)?;
     let opened = open(alloc, names, e, 0)?;
@@ -308,7 +308,7 @@ fn prepared_test(alloc: Global, e: &Expr, names: &Names, into: u8) -> Result<Pie
     requires room { words_of (expression_of e.now) ≤ EXPRESSION_WORDS }
     ensures { IfOk result (λ p.
         p ≡ unmarked (prepared_test_cells (spot_of_name (known_by names.now))
-        (free_of (known_by names.now)) (expression_of e.now) into)) }
+        (free_words_of (known_by names.now)) (expression_of e.now) into)) }
 {
     let outer = parts(alloc, names, e, 0)?;
     let opened = open(alloc, names, e, 0)?;
@@ -323,7 +323,7 @@ fn chosen_value(alloc: Global, e: &Expr, names: &Names, into: u8) -> Result<Piec
     requires register { Target into }
     requires room { words_of (expression_of e.now) ≤ EXPRESSION_WORDS }
     ensures { IfOk result (λ p.
-        p ≡ unmarked (value_cells (spot_of_name (known_by names.now)) (free_of (known_by names.now))
+        p ≡ unmarked (value_cells (spot_of_name (known_by names.now)) (free_words_of (known_by names.now))
         (expression_of e.now) into)) }
 {
     if is_held(e) {
@@ -338,12 +338,12 @@ pub fn value_piece(alloc: Global, e: &Expr, names: &Names, into: u8) -> Result<P
     requires register { Target into }
     requires room { words_of (expression_of e.now) ≤ EXPRESSION_WORDS }
     ensures code { IfOk result (λ p.
-        p ≡ unmarked (value_cells (spot_of_name (known_by names.now)) (free_of (known_by names.now))
+        p ≡ unmarked (value_cells (spot_of_name (known_by names.now)) (free_words_of (known_by names.now))
         (expression_of e.now) into)) }
     ensures law { IfOk result (λ p.
-        ValueLaw (spot_of_name (known_by names.now)) (free_of (known_by names.now)) into
+        ExpressionLaw (spot_of_name (known_by names.now)) (free_words_of (known_by names.now)) into
         (expression_of e.now) p.cells) }
-    ensures size { IfOk result (λ p. length p.cells ≤ 58 * tokens (expression_of e.now)) }
+    ensures size { IfOk result (λ p. length p.cells ≤ 58 * token_count (expression_of e.now)) }
 {
     chosen_value(alloc, e, names, into)
 }
@@ -352,7 +352,7 @@ fn chosen_test(alloc: Global, e: &Expr, names: &Names, into: u8) -> Result<Piece
     requires register { Target into }
     requires room { words_of (expression_of e.now) ≤ EXPRESSION_WORDS }
     ensures { IfOk result (λ p.
-        p ≡ unmarked (test_cells (spot_of_name (known_by names.now)) (free_of (known_by names.now))
+        p ≡ unmarked (test_cells (spot_of_name (known_by names.now)) (free_words_of (known_by names.now))
         (expression_of e.now) into)) }
 {
     if is_held(e) {
@@ -367,12 +367,12 @@ pub fn test_piece(alloc: Global, e: &Expr, names: &Names, into: u8) -> Result<Pi
     requires register { Target into }
     requires room { words_of (expression_of e.now) ≤ EXPRESSION_WORDS }
     ensures code { IfOk result (λ p.
-        p ≡ unmarked (test_cells (spot_of_name (known_by names.now)) (free_of (known_by names.now))
+        p ≡ unmarked (test_cells (spot_of_name (known_by names.now)) (free_words_of (known_by names.now))
         (expression_of e.now) into)) }
     ensures law { IfOk result (λ p.
-        TestLaw (spot_of_name (known_by names.now)) (free_of (known_by names.now)) into
+        ConditionLaw (spot_of_name (known_by names.now)) (free_words_of (known_by names.now)) into
         (expression_of e.now) p.cells) }
-    ensures size { IfOk result (λ p. length p.cells ≤ 58 * tokens (expression_of e.now)) }
+    ensures size { IfOk result (λ p. length p.cells ≤ 58 * token_count (expression_of e.now)) }
 {
     chosen_test(alloc, e, names, into)
 }

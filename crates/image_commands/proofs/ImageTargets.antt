@@ -18,7 +18,7 @@ use Rattle.image_inverter.specs.pisa_isa.Machine.{State}
 use Rattle.command_plan.specs.Plans.{Planned, WritesOnly}
 use Rattle.image_commands.specs.ImagePlans.{OfImage, OfRunImage, IsAsmPlan, AssemblesFile, ListsFile, FlipsFile}
 use Rattle.image_commands.specs.ImagePlans.{RunsFile}
-use Rattle.image_commands.specs.ImagePlans.{IsListPlan, IsFlipPlan, IsRunPlan, IsSizedPlan, IsRanPlan, first_of, saved}
+use Rattle.image_commands.specs.ImagePlans.{IsListPlan, IsFlipPlan, IsRunPlan, IsSizedPlan, IsRanPlan, position_at_start, saved}
 use Rattle.pisa_scripts.specs.declared.command.Command.{Command}
 use Rattle.debugger_scripts.specs.declared.error.ScriptError.{ScriptError}
 use Rattle.debugger_scripts.specs.declared.error.ScriptError.TheVariants.{BadCommand, NoMemory}
@@ -64,7 +64,7 @@ sized_writes : (refusal : Option LoadError) (n : NotedImage) (limits : Limits) (
     → WritesOnly p save
 sized_writes (Some e) n limits state save steps count counted p h = along p _ save h.0 (inl refl)
 sized_writes None n limits state save steps count counted p h =
-    ran_writes (first_of n.image limits state) n.notes save steps count counted p h
+    ran_writes (position_at_start n.image limits state) n.notes save steps count counted p h
 
 run_writes : (read : Result NotedImage ImageError) (sizes : Sizes) (state save : Option (List ℕ))
     (count counted : ℕ) (p : Planned) → IsRunPlan read sizes state save count counted p → WritesOnly p save

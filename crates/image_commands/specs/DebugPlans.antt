@@ -28,12 +28,12 @@ use Rattle.command_plan.specs.Texts.{load_line, bad_command_line}
 use Rattle.image_commands.specs.ImagePlans.{OfRunImage}
 
 -- where an image is loaded with no input
-abbrev pub start_of : Segments → Limits → Position
-start_of image limits = first_position image zero_registers (loaded image.statics limits [])
+abbrev pub start_position : Segments → Limits → Position
+start_position image limits = first_position image zero_registers (loaded image.statics limits [])
 
 -- what the commands print from the loaded memory on is printed, whatever stops they meet
 abbrev pub followed : Segments → Limits → List Command → Planned
-followed image limits commands = prints Done (shown commands (start_of image limits))
+followed image limits commands = prints Done (shown commands (start_position image limits))
 
 -- the first line of the script that is no command is reported, or its commands are followed
 abbrev pub IsScriptPlan : Result (List Command) ScriptError → Segments → Limits
@@ -43,7 +43,7 @@ IsScriptPlan (Err (BadCommand line)) image limits count counted p =
 IsScriptPlan (Err NoMemory) image limits count counted p = ⊥
 IsScriptPlan (Ok commands) image limits count counted p =
     (p ≡ followed image limits commands)
-    × (counted ≡ count + spent_in commands (start_of image limits))
+    × (counted ≡ count + spent_in commands (start_position image limits))
 
 -- the size of the memory is tried before the script
 abbrev pub IsRoomPlan : Option LoadError → Segments → Limits → (script : List ℕ)
@@ -76,7 +76,7 @@ abbrev pub IsScriptShort : Result (List Command) ScriptError → Segments → Li
     → (count counted : ℕ) → Type 0
 IsScriptShort (Err e) image limits count counted = ⊥
 IsScriptShort (Ok commands) image limits count counted =
-    MovesSome commands (start_of image limits) count counted
+    MovesSome commands (start_position image limits) count counted
 
 abbrev pub IsRoomShort : Option LoadError → Segments → Limits → (script : List ℕ)
     → (count counted : ℕ) → Type 0

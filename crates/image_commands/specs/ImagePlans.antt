@@ -25,7 +25,7 @@ use Rattle.two_way_debugger.specs.pisa_machine.Position.{Position, first_positio
 use Rattle.command_plan.specs.Texts.{asm_line, image_line, load_line, cells_line}
 use Rattle.image_commands.specs.RunTexts.{end_lines}
 use Rattle.command_plan.specs.pisa_loader.Limiting.{limits_refusal, memory_size}
-use Rattle.command_plan.specs.pisa_loader.States.{state_bytes, state_at, at_start, memory}
+use Rattle.command_plan.specs.pisa_loader.States.{state_bytes, state_at, at_start, loaded_memory}
 use Rattle.command_plan.specs.pisa_loader.declared.error.LoadError.{LoadError}
 use Rattle.command_plan.specs.rpp_words.declared.input.TheConstants.{MOST_DEEP}
 use Rattle.command_plan.specs.command_ends.declared.verdict.Verdict.{Verdict}
@@ -34,23 +34,23 @@ use Rattle.command_plan.specs.command_ends.declared.verdict.Verdict.TheVariants.
 use Rattle.command_plan.specs.Plans.{Planned, Written, prints, writes, WithText, WithState}
 
 -- the status of a stop
-abbrev pub verdict_of : Stop → Verdict
-verdict_of Finished = Done
-verdict_of (Trap code) = Trapped
-verdict_of AtBound = Bound
-verdict_of _ = Stopped
+abbrev pub stop_verdict : Stop → Verdict
+stop_verdict Finished = Done
+stop_verdict (Trap code) = Trapped
+stop_verdict AtBound = Bound
+stop_verdict _ = Stopped
 
 -- the state where a run ended is written, if a file is named for it
 abbrev pub saved : Option (List ℕ) → MachineState → Option Written
 saved None last = None
 saved (Some name) last = Some (record {
   name = name;
-  bytes = state_bytes (memory last.regs last.cells);
+  bytes = state_bytes (loaded_memory last.regs last.cells);
 })
 
 abbrev pub ran : NoteLists → (save : Option (List ℕ)) → End → Planned
 ran notes save end = record {
-  verdict = verdict_of end.why;
+  verdict = stop_verdict end.why;
   text = end_lines notes end;
   writing = saved save end.last;
 }
@@ -69,10 +69,10 @@ OfRunImage count counted P (Err e) p =
 OfRunImage count counted P (Ok n) p = P n p
 
 -- where a run of an image begins: at the loaded memory, or at a state
-abbrev pub first_of : Segments → Limits → Option (List ℕ) → Result Position LoadError
-first_of image limits None = Ok (first_position image zero_registers
+abbrev pub position_at_start : Segments → Limits → Option (List ℕ) → Result Position LoadError
+position_at_start image limits None = Ok (first_position image zero_registers
     (loaded image.statics limits []))
-first_of image limits (Some bytes) =
+position_at_start image limits (Some bytes) =
     at_start image (state_at (memory_size (length image.statics) limits) bytes)
 
 -- the state is checked, and then the run is made, once
@@ -90,7 +90,7 @@ abbrev pub IsSizedPlan : Option LoadError → NotedImage → Limits
 IsSizedPlan (Some e) n limits state save steps count counted p =
     (p ≡ prints InputRefused (load_line e)) × (counted ≡ count)
 IsSizedPlan None n limits state save steps count counted p =
-    IsRanPlan (first_of n.image limits state) n.notes save steps count counted p
+    IsRanPlan (position_at_start n.image limits state) n.notes save steps count counted p
 
 abbrev pub IsRunPlan : Result NotedImage ImageError
     → (sizes : Sizes) (state save : Option (List ℕ)) → (count counted : ℕ) → Planned → Type 0

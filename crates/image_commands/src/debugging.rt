@@ -9,7 +9,7 @@ ghost use Rattle.debugger_scripts.specs.Scripts.{script_of};
 ghost use Rattle.two_way_debugger.specs.Shown.{shown, spent_in};
 ghost use Rattle.command_plan.specs.Files.{OnlyReads, UnreadCause, image_file, script_file};
 ghost use Rattle.command_plan.specs.Plans.{planned, GivesPlan};
-ghost use Rattle.image_commands.specs.DebugPlans.{start_of, followed, IsScriptPlan, IsRoomPlan, IsDebugPlan, DebugsFile, MovesSome, IsScriptShort, IsRoomShort, IsDebugShort, DebugsFileShort};
+ghost use Rattle.image_commands.specs.DebugPlans.{start_position, followed, IsScriptPlan, IsRoomPlan, IsDebugPlan, DebugsFile, MovesSome, IsScriptShort, IsRoomShort, IsDebugShort, DebugsFileShort};
 
 use command_plan::{
     MOST_IMAGE, NoPlan, Plan, Room, Verdict, bad_command_line, image_line, load_line, read_both,
@@ -134,9 +134,9 @@ fn follow_script<L: Ledger>(
     requires { IsLimits limits }
     ensures plan { IfOk result (λ plan. planned plan ≡ followed image limits commands.now) }
     ensures counter { OnOk result (steps.new
-        ≡ steps.old + spent_in commands.now (start_of image limits)) }
+        ≡ steps.old + spent_in commands.now (start_position image limits)) }
     ensures short { IfErr result (λ _. (steps.new ≡ steps.old)
-        ⊎ MovesSome commands.now (start_of image limits) steps.old steps.new) }
+        ⊎ MovesSome commands.now (start_position image limits) steps.old steps.new) }
 {
     let input = Input {
         words: Vec::new(alloc),

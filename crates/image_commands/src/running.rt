@@ -8,8 +8,8 @@ ghost use Rattle.command_plan.specs.pisa_loader.States.{Gives};
 ghost use Rattle.command_plan.specs.rpp_words.Limits.{IsLimits};
 ghost use Rattle.command_plan.specs.declared.reading.TheConstants.{MOST_IMAGE};
 ghost use Rattle.command_plan.specs.Files.{state_of_names, save_of_names, OnlyReads, UnreadCause, image_file, state_files};
-ghost use Rattle.command_plan.specs.Plans.{planned, written, GivesPlan};
-ghost use Rattle.image_commands.specs.ImagePlans.{first_of, saved as saved_state, ran as ran_plan, verdict_of as verdict_of_stop, IsRunPlan, IsSizedPlan, IsRanPlan, RunsFile};
+ghost use Rattle.command_plan.specs.Plans.{planned, written_file, GivesPlan};
+ghost use Rattle.image_commands.specs.ImagePlans.{position_at_start, saved as saved_state, ran as ran_plan, stop_verdict as verdict_of_stop, IsRunPlan, IsSizedPlan, IsRanPlan, RunsFile};
 
 use crate::run_texts::end_lines;
 use command_plan::{
@@ -117,7 +117,7 @@ fn run_from<L: Ledger>(
     requires limits { IsLimits bounds.limits }
     requires bound { bounds.bound < 2 ^ 63 }
     ensures plan { IfOk result (λ plan.
-        IsRanPlan (first_of noted.image bounds.limits (option_map (λ v. v.items) state.now))
+        IsRanPlan (position_at_start noted.image bounds.limits (option_map (λ v. v.items) state.now))
         noted.notes (save_of_names states.now) bounds.bound steps.old steps.new (planned plan)) }
     ensures within { steps.new ≤ steps.old + bounds.bound }
 {
@@ -138,7 +138,7 @@ fn first_machine(
 ) -> Result<Machine, LoadError>
     requires { IsLimits limits }
     ensures exact { Gives (λ machine. machine) result
-        (first_of image limits (option_map (λ v. v.items) state.now)) }
+        (position_at_start image limits (option_map (λ v. v.items) state.now)) }
     ensures first { IfOk result (λ machine. machine.made ≡ 0) }
 {
     match state {
@@ -207,7 +207,7 @@ fn saved(
     machine: &Machine,
     states: &Option<StateNames>,
 ) -> Result<Option<Writing>, NoMemory>
-    ensures { IfOk result (λ writing. option_map written writing
+    ensures { IfOk result (λ writing. option_map written_file writing
         ≡ saved_state (save_of_names states.now) machine.now.state) }
 {
     let Some(names) = states else {

@@ -23,18 +23,18 @@ register_watch None = Nothing
 register_watch (Some register) = Register register
 
 -- the register `$R` that is the first of the arguments, or the memory cell
-abbrev pub watch_of : Goal → (arguments : List (List ℕ)) → Watch
-watch_of goal.Points arguments = Nothing
-watch_of goal.Any arguments = Nothing
-watch_of (goal.Depth most) arguments = Nothing
-watch_of goal.Change arguments = register_watch (register_of (first_argument arguments))
-watch_of (goal.Cell at) arguments = Cell at
+abbrev pub image_watch_of : Goal → (arguments : List (List ℕ)) → Watch
+image_watch_of goal.Points arguments = Nothing
+image_watch_of goal.Any arguments = Nothing
+image_watch_of (goal.Depth most) arguments = Nothing
+image_watch_of goal.Change arguments = register_watch (register_of (first_argument arguments))
+image_watch_of (goal.Cell at) arguments = Cell at
 
 -- its word at a position, if it exists
-abbrev pub word_at : Watch → Position → Option ℕ
-word_at Nothing p = None
-word_at (Register register) p = slice_get p.state.regs register
-word_at (Cell at) p = slice_get p.state.cells at
+abbrev pub watched_word : Watch → Position → Option ℕ
+watched_word Nothing p = None
+watched_word (Register register) p = slice_get p.state.regs register
+watched_word (Cell at) p = slice_get p.state.cells at
 
 abbrev pub is_other : (here from : Option ℕ) → Bool
 is_other None None = false
@@ -49,13 +49,13 @@ with_number None numbers = numbers
 with_number (Some number) numbers = pos number ∷ numbers
 
 -- the numbers that words write
-abbrev pub numbers_of : List (List ℕ) → List ℤ
-numbers_of [] = []
-numbers_of (word ∷ words) = with_number (short_number word) (numbers_of words)
+abbrev pub parsed_numbers : List (List ℕ) → List ℤ
+parsed_numbers [] = []
+parsed_numbers (word ∷ words) = with_number (short_number word) (parsed_numbers words)
 
 abbrev pub places_of : Goal → (arguments : List (List ℕ)) → List ℤ
 places_of goal.Points arguments = []
-places_of goal.Any arguments = numbers_of arguments
+places_of goal.Any arguments = parsed_numbers arguments
 places_of (goal.Depth most) arguments = []
 places_of goal.Change arguments = []
 places_of (goal.Cell at) arguments = []
@@ -72,14 +72,14 @@ pub record Sought : Type 0 where
 abbrev pub sought : Goal → (arguments : List (List ℕ)) → (from : Position) → Sought
 sought goal arguments from = record {
   places = places_of goal arguments;
-  watch = watch_of goal arguments;
-  from = word_at (watch_of goal arguments) from;
+  watch = image_watch_of goal arguments;
+  from = watched_word (image_watch_of goal arguments) from;
 }
 
 -- whether a position has one of the code addresses, or what is watched has another word
 abbrev pub is_wanted : Sought → Position → Bool
 is_wanted it p =
-    list_any (int_eq p.state.pc) it.places || is_other (word_at it.watch p) it.from
+    list_any (int_eq p.state.pc) it.places || is_other (watched_word it.watch p) it.from
 
 -- whether the run of an image has what moves look for
 abbrev pub is_served : Goal → (arguments : List (List ℕ)) → Bool

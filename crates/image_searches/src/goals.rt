@@ -2,7 +2,7 @@
 ghost use Rattle.std.specs.Prelude.{◌≡◌, ◌++◌, IfOk, OnOk, map};
 ghost use Rattle.std.specs.List.{list_any};
 ghost use Rattle.std.specs.Ordering.{int_eq};
-ghost use Rattle.image_searches.specs.Goals.{with_number, numbers_of, places_of as places_for, sought, is_wanted, is_served as is_served_goal};
+ghost use Rattle.image_searches.specs.Goals.{with_number, parsed_numbers, places_of as places_for, sought, is_wanted, is_served as is_served_goal};
 ghost use Rattle.image_searches.specs.Sights.{sought_in};
 
 use crate::watches::{Watch, first_register, is_other, watch_of, word_at};
@@ -22,7 +22,7 @@ pub(crate) struct Aim {
 // Adds the numbers that words write.
 fn add_numbers(numbers: &mut Vec<i64>, words: &[&[u8]]) -> Result<(), AllocError>
     ensures { OnOk result (numbers.new.items
-        ≡ numbers.old.items ++ numbers_of (map (λ word. word.now) words.now)) }
+        ≡ numbers.old.items ++ parsed_numbers (map (λ word. word.now) words.now)) }
 {
     match words {
         [] => Ok(()),

@@ -1,7 +1,7 @@
 // Lists of positions.
 ghost use Rattle.std.specs.Prelude.{◌≡◌, IfOk, OnErr, string_bytes};
-ghost use Rattle.image_searches.specs.Steps.{MovesSome};
-ghost use Rattle.image_searches.specs.Searches.{points as points_of};
+ghost use Rattle.image_searches.specs.Steps.{ImageMovesSome};
+ghost use Rattle.image_searches.specs.Searches.{image_points as points_of};
 
 use crate::moves::{Moved, Outcome, Step, go};
 use pisa_machine::Steps;
@@ -25,7 +25,7 @@ pub(crate) fn points<L: Ledger>(
       text = string_bytes moved.text;
       how = moved.how;
     }) }
-    ensures lost { OnErr result (MovesSome way most debugger.old debugger.new) }
+    ensures lost { OnErr result (ImageMovesSome way most debugger.old debugger.new) }
 {
     let mut text = String::new(alloc);
     for _ in 0..most {

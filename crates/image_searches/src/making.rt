@@ -1,7 +1,7 @@
 // Moves that are asked for.
 ghost use Rattle.std.specs.Prelude.{◌≡◌, IfOk, OnErr, string_bytes, map};
-ghost use Rattle.image_searches.specs.Steps.{MovesSome};
-ghost use Rattle.image_searches.specs.Makings.{made};
+ghost use Rattle.image_searches.specs.Steps.{ImageMovesSome};
+ghost use Rattle.image_searches.specs.Makings.{image_made};
 ghost use Rattle.live_requests.specs.Asks.{way_of};
 
 use crate::lists::points;
@@ -22,13 +22,13 @@ pub fn make<L: Ledger>(
     ask: Ask,
     arguments: &[&[u8]],
 ) -> Result<Moved, NoMemory>
-    ensures found { IfOk result (λ moved. made ask (map (λ word. word.now) arguments.now)
+    ensures found { IfOk result (λ moved. image_made ask (map (λ word. word.now) arguments.now)
         debugger.old ≡ record {
           position = debugger.new;
           text = string_bytes moved.text;
           how = moved.how;
         }) }
-    ensures lost { OnErr result (MovesSome (way_of ask.back) ask.most debugger.old debugger.new) }
+    ensures lost { OnErr result (ImageMovesSome (way_of ask.back) ask.most debugger.old debugger.new) }
 {
     match ask.goal {
         Goal::Points => points(alloc, debugger, steps, way(ask.back), ask.most),

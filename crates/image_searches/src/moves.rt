@@ -1,6 +1,6 @@
 // Single moves.
 ghost use Rattle.std.specs.Prelude.{◌≡◌, if◌then◌else◌, string_bytes};
-ghost use Rattle.image_searches.specs.Steps.{led, Goes};
+ghost use Rattle.image_searches.specs.Steps.{led_to, ImageGoes};
 ghost use Rattle.live_requests.specs.Asks.{way_of};
 
 use pisa_machine::Steps;
@@ -64,8 +64,8 @@ pub(crate) fn go<L: Ledger>(
     way: Command,
     text: &mut String,
 ) -> Step
-    ensures position { debugger.new ≡ led way debugger.old }
-    ensures goes { Goes way debugger.old (string_bytes text.old) (string_bytes text.new) result }
+    ensures position { debugger.new ≡ led_to way debugger.old }
+    ensures goes { ImageGoes way debugger.old (string_bytes text.old) (string_bytes text.new) result }
 {
     let from = debugger.machine().made();
     match debugger.command(alloc, &way, text, steps) {

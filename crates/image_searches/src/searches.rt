@@ -1,10 +1,10 @@
 // Searches.
 ghost use Rattle.std.specs.Prelude.{◌≡◌, IfOk, OnErr, string_bytes, map};
-ghost use Rattle.image_searches.specs.Steps.{led, MovesSome};
+ghost use Rattle.image_searches.specs.Steps.{led_to, ImageMovesSome};
 ghost use Rattle.image_searches.specs.Goals.{sought, is_wanted};
 ghost use Rattle.image_searches.specs.Sights.{sought_in};
-ghost use Rattle.image_searches.specs.Searches.{found, seek as seek_in};
-ghost use Rattle.image_searches.specs.Turns.{turn_by, IsTurn};
+ghost use Rattle.image_searches.specs.Searches.{image_found, image_seek as seek_in};
+ghost use Rattle.image_searches.specs.Turns.{turn_by, IsImageTurn};
 ghost use Rattle.live_requests.specs.Asks.{way_of};
 
 use crate::goals::{Aim, take_aim, wanted};
@@ -48,8 +48,8 @@ fn make_turn<L: Ledger>(
     aim: &Aim,
     line: &mut String,
 ) -> Turn
-    ensures position { debugger.new ≡ led way debugger.old }
-    ensures turned { IsTurn way (is_wanted (sought_in aim.now)) debugger.old
+    ensures position { debugger.new ≡ led_to way debugger.old }
+    ensures turned { IsImageTurn way (is_wanted (sought_in aim.now)) debugger.old
         (string_bytes line.new) result }
 {
     line.clear();
@@ -66,7 +66,7 @@ fn stop<L: Ledger>(
     debugger: &mut Debugger,
     steps: &mut Steps<L>,
 ) -> Result<Moved, NoMemory>
-    ensures found { IfOk result (λ moved. found (Command.Step 0) debugger.old Outcome.Made
+    ensures found { IfOk result (λ moved. image_found (Command.Step 0) debugger.old Outcome.Made
         ≡ record {
           position = debugger.new;
           text = string_bytes moved.text;
@@ -97,7 +97,7 @@ fn seek_on<L: Ledger>(
           text = string_bytes moved.text;
           how = moved.how;
         }) }
-    ensures lost { OnErr result (MovesSome way most debugger.old debugger.new) }
+    ensures lost { OnErr result (ImageMovesSome way most debugger.old debugger.new) }
 {
     let mut line = String::new(alloc);
     for _ in 0..most {
@@ -125,7 +125,7 @@ pub(crate) fn seek<L: Ledger>(
           text = string_bytes moved.text;
           how = moved.how;
         }) }
-    ensures lost { OnErr result (MovesSome (way_of ask.back) ask.most debugger.old debugger.new) }
+    ensures lost { OnErr result (ImageMovesSome (way_of ask.back) ask.most debugger.old debugger.new) }
 {
     let aim = take_aim(alloc, debugger.machine(), ask.goal, arguments)?;
     seek_on(alloc, debugger, steps, way(ask.back), ask.most, &aim)

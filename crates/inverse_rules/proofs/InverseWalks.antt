@@ -2,7 +2,7 @@
 use Rattle.std.proofs.Common.{◌≡◌, ℕ, ◌+◌, max, Bool, List, refl, arith}
 use Rattle.rpp_tree.specs.declared.tree.Ident.{Ident}
 use Rattle.rpp_tree.specs.declared.tree.Var.{Var}
-use Rattle.rpp_tree.specs.Tree.{Expression, Statement, Statements, If, From, Construct, Local, End, Then, joined, Part}
+use Rattle.rpp_tree.specs.Tree.{Expression, Statement, Statements, If, From, Construct, Local, End, Then, joined, TreePart}
 use Rattle.rpp_tree.specs.Tree.{Operand, Walk, walk, walk_block, own_parts, each_part, nesting, depth}
 use Rattle.rpp_tree.specs.Limits.{held_locals, locals}
 use Rattle.rpp_tree.proofs.Walks.{walk_joined}
@@ -10,7 +10,7 @@ use Rattle.inverse_rules.specs.Inverse.{inverse_statement_as, inverse_as}
 
 -- what a walk says of an inverse is related to what it says of the syntax tree
 pub record IsTurned {ℓ μ} {A : Type ℓ} (R : A → A → Type μ) (w : Walk A) (turn : Bool) : Type (ℓ ⊔ μ) where
-  pub plain : (at : ℕ) (parts : List Part) → R (w.plain at parts) (w.plain at parts)
+  pub plain : (at : ℕ) (parts : List TreePart) → R (w.plain at parts) (w.plain at parts)
   pub forked : (at : ℕ) (before : Expression) (a b c d : A) (after : Expression) → R a c → R b d
       → R (w.forked at after a b before) (w.forked at before c d after)
   pub construct : (at : ℕ) (class name : Ident) (a c : A) (end : Ident) → R a c
@@ -41,7 +41,7 @@ mutual
       h.last first (inverse_as turn rest) _ _ (walk_turned h first) (block_turned h rest)
 
 -- what is said of the parts of a statement, in whichever order, is said of those of its inverse
-pub own_parts_turned {ℓ} : {A : Type ℓ} (join : A → A → A) (said : Part → A) (none : A)
+pub own_parts_turned {ℓ} : {A : Type ℓ} (join : A → A → A) (said : TreePart → A) (none : A)
     → ((a b : A) → join a b ≡ join b a) → (turn : Bool) (s : Statement)
     → each_part join said none (own_parts (inverse_statement_as turn s)) ≡ each_part join said none (own_parts s)
 own_parts_turned join said none commutes turn (If at test taken other after) =

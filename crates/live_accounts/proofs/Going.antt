@@ -7,13 +7,13 @@ use Rattle.source_execution.specs.rpp_words.declared.input.Limits.{Limits}
 use Rattle.source_execution.specs.rpp_tree.Tree.{Source}
 use Rattle.source_execution.specs.roopl_semantics.Run.{Run, Done, Fault, More}
 use Rattle.source_execution.specs.roopl_semantics.Execution.{Setting}
-use Rattle.source_execution.specs.meaning_points.Points.{Point, behind}
+use Rattle.source_execution.specs.meaning_points.Points.{Point, points_behind}
 use Rattle.source_execution.specs.meaning_machine.Machine.{Config, next, walk, seen, point_of}
-use Rattle.source_execution.specs.meaning_machine.SourceLaws.{set_for, start_of}
+use Rattle.source_execution.specs.meaning_machine.SourceLaws.{set_for, start_config}
 use Rattle.source_execution.proofs.meaning_machine_laws.Steps.{plus, seen_plus}
-use Rattle.source_execution.specs.source_steps.Metered.{Went, metered, went, stopped, left_of}
+use Rattle.source_execution.specs.source_steps.Metered.{Went, metered, went, stopped_metered, left_of}
 use Rattle.source_execution.proofs.source_steps_laws.Fuelled.{left_is}
-use Rattle.source_execution.specs.Standing.{Standing, IsOver, config_at, setting_at, next_place}
+use Rattle.source_execution.specs.Standing.{ExecutionStanding, IsOver, config_at, setting_at, next_place}
 use Rattle.source_debugger.specs.Watched.{counted}
 use Rattle.source_debugger.specs.Stacks.{IsPosition}
 use Rattle.source_debugger.proofs.source_courses_laws.Rewound.{one_more, counts, none_behind}
@@ -31,7 +31,7 @@ went_is : (x end : Config) (o : Option ℕ) (left : ℕ) → went x o ≡ Went e
 went_is x end None left e = cc
 went_is x end (Some k) left e = cc
 
-not_went : (code : ℕ) (end : Config) (o : Option ℕ) (left : ℕ) → stopped code o ≡ Went end left → ⊥
+not_went : (code : ℕ) (end : Config) (o : Option ℕ) (left : ℕ) → stopped_metered code o ≡ Went end left → ⊥
 not_went code end None left e = cc
 not_went code end (Some k) left e = cc
 
@@ -52,10 +52,10 @@ module _ (program : Source) (limits : Limits) (input : List FieldWord) where
   here = set_for program limits
 
   abbrev start : Config
-  start = start_of program input
+  start = start_config program input
 
   -- some steps have come here, past so many trace points, at the cost of what is gone of the fuel
-  pub record HasGone (e : Standing) (fuel passed : ℕ) : Type 0 where
+  pub record HasGone (e : ExecutionStanding) (fuel passed : ℕ) : Type 0 where
     pub steps : ℕ
     pub cost : ℕ
     pub came : walk here steps start ≡ Done (config_at e) cost
@@ -64,7 +64,7 @@ module _ (program : Source) (limits : Limits) (input : List FieldWord) where
     pub same : setting_at e ≡ here
     pub whole : e.broken ≡ false
 
-  pub at_start : (e : Standing) → config_at e ≡ start → setting_at e ≡ here → e.broken ≡ false
+  pub at_start : (e : ExecutionStanding) → config_at e ≡ start → setting_at e ≡ here → e.broken ≡ false
       → HasGone e (2 ^ 64 - 1) 0
   at_start e c s w = record {
     steps = 0;
@@ -76,7 +76,7 @@ module _ (program : Source) (limits : Limits) (input : List FieldWord) where
     whole = w;
   }
 
-  pub further : (e later : Standing) (fuel left passed more : ℕ) (place : Option ℕ) → HasGone e fuel passed
+  pub further : (e later : ExecutionStanding) (fuel left passed more : ℕ) (place : Option ℕ) → HasGone e fuel passed
       → metered fuel (next (setting_at e) (config_at e)) ≡ Went (config_at later) left
       → setting_at later ≡ setting_at e → later.broken ≡ false
       → more ≡ counted passed place → place ≡ next_place (config_at e).rest → HasGone later left more
@@ -88,7 +88,7 @@ module _ (program : Source) (limits : Limits) (input : List FieldWord) where
       let now = one.spent in
       let points : seen here (plus h.steps 1) start ≡ seen here h.steps start ++ point_of here x.params x.state x.rest =
       seen_plus here h.steps 1 start
-      ∙ ap (λ (r : Run Config). seen here h.steps start ++ behind r (seen here 1)) h.came
+      ∙ ap (λ (r : Run Config). seen here h.steps start ++ points_behind r (seen here 1)) h.came
       ∙ ap (λ (l : List Point). seen here h.steps start ++ (point_of here x.params x.state x.rest ++ l))
       (none_behind here (next here x))
       ∙ ap (λ (l : List Point). seen here h.steps start ++ l) (append-nil (point_of here x.params x.state x.rest)) in

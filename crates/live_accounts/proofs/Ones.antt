@@ -6,9 +6,9 @@ use Rattle.source_execution.specs.rpp_tree.Tree.{Statements, End, Then}
 use Rattle.source_execution.specs.roopl_semantics.Run.{Run, Done, after_cost, ◌>>=◌}
 use Rattle.source_execution.specs.roopl_semantics.Store.{State}
 use Rattle.source_execution.specs.roopl_semantics.Execution.{Setting}
-use Rattle.source_execution.specs.meaning_points.Points.{Point, behind}
+use Rattle.source_execution.specs.meaning_points.Points.{Point, points_behind}
 use Rattle.source_execution.specs.meaning_machine.Machine.{Config, next, walk, stepped, closing, point_of, seen}
-use Rattle.source_execution.specs.meaning_machine.SourceLaws.{set_for, start_of}
+use Rattle.source_execution.specs.meaning_machine.SourceLaws.{set_for, start_config}
 use Rattle.source_execution.proofs.meaning_machine_laws.Steps.{plus, walk_plus, seen_plus, after_zero}
 use Rattle.source_execution.specs.Standing.{IsOver, next_place}
 use Rattle.source_debugger.specs.Stacks.{IsPosition}
@@ -35,7 +35,7 @@ module _ (setting : Setting) where
   none_passed : (n : ℕ) (x : Config) → IsPosition x → length (seen setting n x) ≡ 0 → walk setting n x ≡ Done x 0
   none_passed zero x stands e = refl
   none_passed (suc n) x (inl (place, begins)) e =
-      absurd (passes x.params place x.state x.rest (behind (next setting x) (seen setting n)) begins e)
+      absurd (passes x.params place x.state x.rest (points_behind (next setting x) (seen setting n)) begins e)
   none_passed (suc n) x (inr over) e = stays (suc n) x over
 
   same_place : (x y : Config) (c d : ℕ) → Done x c ≡ Done y d → (x ≡ y) × (c ≡ d)
@@ -49,7 +49,7 @@ module _ (setting : Setting) where
       walk_plus setting a n start ∙ ap (λ (r : Run Config). r >>= walk setting n) came in
       let points : seen setting (plus a n) start ≡ seen setting a start ++ seen setting n x =
       seen_plus setting a n start
-      ∙ ap (λ (r : Run Config). seen setting a start ++ behind r (seen setting n)) came in
+      ∙ ap (λ (r : Run Config). seen setting a start ++ points_behind r (seen setting n)) came in
       let count = sym (length-append (seen setting a start) (seen setting n x))
       ∙ sym (ap (λ (l : List Point). length l) points) in
       let none : length (seen setting n x) ≡ 0 = omega arith in
@@ -65,7 +65,7 @@ are_one program limits input position x y first second = by (nat_le first.steps 
     setting = set_for program limits
 
     start : Config
-    start = start_of program input
+    start = start_config program input
 
     by : (b : Bool) → nat_le first.steps second.steps ≡ b → AreOne program limits input position x y first second
     by true t =

@@ -16,7 +16,7 @@ use Rattle.source_execution.specs.source_store.ValueView.{value_of, values_of}
 use Rattle.source_execution.specs.source_store.HeapView.{Kept, TookBlock, TookNone as FoundNone, Took as Found}
 use Rattle.source_execution.specs.source_store.HeapView.{asked_for}
 use Rattle.live_accounts.specs.Free.{free_after, free_line, free_lines}
-use Rattle.live_accounts.specs.Takes.{free_in, IsLast, SameBut, TookOne, TookNone, TookAll}
+use Rattle.live_accounts.specs.Takes.{free_in, IsLast, SameBut, TookOne, TakesNone, TookAll}
 use Rattle.live_accounts.proofs.Books.{at, OneLess, took_past, none_past, AsMany, placed_as, nothing_past}
 
 abbrev lists : Option Placing → Book
@@ -61,7 +61,7 @@ apart : (order k : ℕ) → 1 ≤ order → 1 ≤ k → (k ≡ order → ⊥) �
 apart order k from one other e = other (omega arith)
 
 pub found_none : (order n : ℕ) (old new : Kept) → order_of_cells n ≡ order → FoundNone old new n
-    → TookNone order old new
+    → TakesNone order old new
 found_none order n old new size f = record {
   none = none_by (2 + count_taken old.log) order (place old.order old.log)
       (ap (λ (k : ℕ). is_none (place old.order (asks old k))) (sym size) ∙ f.no_block);
@@ -94,7 +94,7 @@ so_many items n v e = length-map items value_of ∙ ap length e ∙ length-repli
 
 pub takes_none : (order n : ℕ) (old new : Kept) (head : Head) (cells : List Value) (name : Option ℕ)
     → order_of_cells n ≡ order → length cells ≡ n → name ≡ None → Found name old new head cells
-    → TookNone order old new
+    → TakesNone order old new
 takes_none order n old new head cells (Some name) size many e f = cc
 takes_none order n old new head cells None size many e f =
     found_none order n old new size (subst (λ (k : ℕ). FoundNone old new k) many f)

@@ -19,15 +19,15 @@ pub record HasArrived (program : Source) (limits : Limits) (input : List FieldWo
   pub cost : there.cost ≡ it.cost
 
 -- the line of a cost
-abbrev pub cost_line : ℕ → Text
-cost_line cost = codes "cost " ++ (decimal cost ++ line_end)
+abbrev pub account_cost_line : ℕ → Text
+account_cost_line cost = codes "cost " ++ (decimal cost ++ line_end)
 
 -- that of the cost up to a position of the run of a program on an input
 pub record TellsCost (program : Source) (limits : Limits) (input : List FieldWord)
     (position : ℕ) (text : Text) : Type 0 where
   pub x : Config
   pub there : IsThere program limits input position x
-  pub shown : text ≡ cost_line there.cost
+  pub shown : text ≡ account_cost_line there.cost
 
 -- the lines of the heap at a position of the run of a program on an input
 pub record TellsHeap (program : Source) (limits : Limits) (input : List FieldWord)

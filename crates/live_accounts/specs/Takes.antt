@@ -24,13 +24,13 @@ pub record TookOne (order : ℕ) (old new : Kept) : Type 0 where
   pub same : new.order ≡ old.order
 
 -- there was none
-pub record TookNone (order : ℕ) (old new : Kept) : Type 0 where
+pub record TakesNone (order : ℕ) (old new : Kept) : Type 0 where
   pub none : list_at (free_in old) order ≡ []
   pub stays : new ≡ old
 
-abbrev pub Takes : Bool → (order : ℕ) → (old new : Kept) → Type 0
-Takes true order old new = TookOne order old new
-Takes false order old new = TookNone order old new
+abbrev pub TakesBlock : Bool → (order : ℕ) → (old new : Kept) → Type 0
+TakesBlock true order old new = TookOne order old new
+TakesBlock false order old new = TakesNone order old new
 
 -- so many blocks of an order were taken, and none is left
 pub record TookAll (taken order : ℕ) (old new : Kept) : Type 0 where

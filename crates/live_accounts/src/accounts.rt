@@ -1,7 +1,7 @@
 // What a run has cost at the position of a debugger, and its heap there.
 ghost use Rattle.std.specs.Prelude.{◌≡◌, IfOk, string_bytes};
 ghost use Rattle.source_execution.specs.rpp_tree.Views.{source_of};
-ghost use Rattle.live_accounts.specs.Accounts.{HasArrived, cost_line, TellsCost, TellsHeap};
+ghost use Rattle.live_accounts.specs.Accounts.{HasArrived, account_cost_line, TellsCost, TellsHeap};
 
 use crate::arriving::{Arrived, go_to};
 use crate::blocks::blocks_text;
@@ -25,7 +25,7 @@ fn arrive<'a>(alloc: Global, debugger: &SourceDebugger<'a>) -> Result<Arrived<'a
 }
 
 fn cost_text(alloc: Global, cost: u64) -> Result<String, AllocError>
-    ensures { IfOk result (λ text. string_bytes text ≡ cost_line cost) }
+    ensures { IfOk result (λ text. string_bytes text ≡ account_cost_line cost) }
 {
     let mut text = String::new(alloc);
     write!(text, "cost {cost}\n")?;

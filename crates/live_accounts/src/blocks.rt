@@ -2,7 +2,7 @@
 ghost use Rattle.std.specs.Prelude.{◌≡◌, ◌++◌, ◌+◌, ◌<◌, ◌≤◌, ◌^◌, IsTrue, IfOk, OnOk, string_bytes, replicate};
 ghost use Rattle.source_execution.specs.roopl_semantics.Execution.{order_of_cells};
 ghost use Rattle.live_accounts.specs.Free.{free_line, free_lines, heap_lines};
-ghost use Rattle.live_accounts.specs.Takes.{free_in, IsLast, Takes, TookAll};
+ghost use Rattle.live_accounts.specs.Takes.{free_in, IsLast, TakesBlock, TookAll};
 
 use source_store::{Head, Heap, Lack, Value};
 use std::alloc::{AllocError, Global};
@@ -41,7 +41,7 @@ fn take_one(alloc: Global, heap: &mut Heap, order: u32) -> Result<bool, Lack>
     requires from { 1 ≤ order }
     requires to { order ≤ 20 }
     requires last { IsLast order (free_in heap.old) }
-    ensures { IfOk result (λ took. Takes took order heap.old heap.new) }
+    ensures { IfOk result (λ took. TakesBlock took order heap.old heap.new) }
 {
     let room = cells(alloc, least_cells(order))?;
     match heap.take(Head::Ints(0), room)? {

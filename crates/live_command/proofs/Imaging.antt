@@ -6,34 +6,34 @@ use Rattle.run_settings.specs.rpp_ports.declared.sink.SinkFault.{SinkFault}
 use Rattle.command_plan.specs.pisa_loader.declared.error.LoadError.{LoadError}
 use Rattle.pisa_isa.specs.Image.{Segments}
 use Rattle.two_way_debugger.specs.pisa_machine.Position.{Position}
-use Rattle.live_talks.specs.Talks.{Talk, Printed, Puts, status_by}
+use Rattle.live_talks.specs.Talks.{Talk, TalkPrinted, TalkPuts, status_by}
 use Rattle.live_talks.specs.Sessions.{IsSession}
-use Rattle.live_talks.specs.Limits.{Held, held, WithLimits}
-use Rattle.live_images.specs.Sessions.{RepliesOf as RepliesAlong}
+use Rattle.live_talks.specs.Limits.{Held, held_run, WithLimits}
+use Rattle.live_images.specs.Sessions.{ImageRepliesOf as RepliesAlong}
 use Rattle.live_command.specs.Lives.{image_greeting, OpensAlong, OpensImage, StartsImage, SizesImage}
 use Rattle.live_command.proofs.Living.{talk_with}
 
-pub along_greets : (p : Held Position) (talk : Talk) (new : Printed) (after : Talk) (status : ℕ)
-    (answer : Result (Unit {0}) SinkFault) → answer ≡ Ok tt → Puts image_greeting answer talk.out new
+pub along_greets : (p : Held Position) (talk : Talk) (new : TalkPrinted) (after : Talk) (status : ℕ)
+    (answer : Result (Unit {0}) SinkFault) → answer ≡ Ok tt → TalkPuts image_greeting answer talk.out new
     → IsSession (WithLimits RepliesAlong) p (talk_with talk new) after status → OpensAlong p talk after status
 along_greets p talk new after status answer is puts session = inr (inr (record {
   talk = talk_with talk new;
   greets = record {
-    puts = subst (λ (a : Result (Unit {0}) SinkFault). Puts image_greeting a talk.out new) is puts;
+    puts = subst (λ (a : Result (Unit {0}) SinkFault). TalkPuts image_greeting a talk.out new) is puts;
     lines = refl;
     heard = refl;
   };
   session = session;
 }))
 
-pub along_greets_not : (p : Held Position) (talk : Talk) (new : Printed) (status : ℕ)
+pub along_greets_not : (p : Held Position) (talk : Talk) (new : TalkPrinted) (status : ℕ)
     (answer : Result (Unit {0}) SinkFault) (fault : SinkFault) → answer ≡ Err fault
-    → Puts image_greeting answer talk.out new → status ≡ status_by 0 (Err fault)
+    → TalkPuts image_greeting answer talk.out new → status ≡ status_by 0 (Err fault)
     → OpensAlong p talk (talk_with talk new) status
 along_greets_not p talk new status answer fault is puts status_is = inr (inl (record {
   fault = fault;
   says = record {
-    puts = subst (λ (a : Result (Unit {0}) SinkFault). Puts image_greeting a talk.out new) is puts;
+    puts = subst (λ (a : Result (Unit {0}) SinkFault). TalkPuts image_greeting a talk.out new) is puts;
     lines = refl;
     heard = refl;
   };
@@ -42,7 +42,7 @@ along_greets_not p talk new status answer fault is puts status_is = inr (inl (re
 
 -- the run is held from where it begins, without a limit
 pub machine_opens : (first : Result Position LoadError) (machine : Position) (run : Held Position) (talk after : Talk)
-    (status : ℕ) → first ≡ Ok machine → run ≡ held machine None → OpensAlong run talk after status
+    (status : ℕ) → first ≡ Ok machine → run ≡ held_run machine None → OpensAlong run talk after status
     → OpensImage first talk after status
 machine_opens first machine run talk after status is run_is opens =
     subst (λ (r : Result Position LoadError). OpensImage r talk after status) (sym is)

@@ -23,24 +23,24 @@ use Rattle.command_plan.specs.declared.plan.NoPlan.{NoPlan}
 use Rattle.command_plan.specs.declared.plan.NoPlan.TheVariants.{Unread}
 use Rattle.plan_serving.specs.Outside.{Shelved}
 use Rattle.plan_serving.proofs.Fetched.{some_none}
-use Rattle.live_talks.specs.Talks.{Talk, Printed, Puts, status_by}
+use Rattle.live_talks.specs.Talks.{Talk, TalkPrinted, TalkPuts, status_by}
 use Rattle.live_talks.specs.Sessions.{IsSession}
-use Rattle.live_talks.specs.Limits.{held as held_at}
+use Rattle.live_talks.specs.Limits.{held_run as held_at}
 use Rattle.live_session.specs.Sessions.{RepliesOf}
 use Rattle.live_command.specs.Beginnings.{Opened}
 use Rattle.live_command.specs.Lives.{PutsOnce, Prints, greeting, words_refused, OpensRun, Starts, Lives}
-use Rattle.live_command.specs.Lives.{files_of}
+use Rattle.live_command.specs.Lives.{session_files}
 
 -- with no line heard
-abbrev pub talk_with : Talk → Printed → Talk
+abbrev pub talk_with : Talk → TalkPrinted → Talk
 talk_with talk out = record talk { out = out }
 
-pub prints : (text shown : List ℕ) (taken : ℕ) (talk : Talk) (new : Printed) (status : ℕ) → shown ≡ text
+pub prints : (text shown : List ℕ) (taken : ℕ) (talk : Talk) (new : TalkPrinted) (status : ℕ) → shown ≡ text
     → PutsOnce shown taken talk.out new status → Prints text taken talk (talk_with talk new) status
 prints text shown taken talk new status is p = record {
   answer = p.answer;
   says = record {
-    puts = subst (λ (t : List ℕ). Puts t p.answer talk.out new) is p.puts;
+    puts = subst (λ (t : List ℕ). TalkPuts t p.answer talk.out new) is p.puts;
     lines = refl;
     heard = refl;
   };
@@ -52,7 +52,7 @@ pub lives_not : (it : Option Opened) (rose : Type 0) (shelf : Shelved) (talk : T
     → Lives it rose shelf shelf talk talk 7
 lives_not None rose shelf talk = (refl, inl (refl, refl))
 lives_not (Some it) rose shelf talk =
-    inr (inr (record { reads = some_none (files_of it) shelf.calls; lacks = (refl, refl) }))
+    inr (inr (record { reads = some_none (session_files it) shelf.calls; lacks = (refl, refl) }))
 
 pub lives_none : (it : Option Opened) (rose : Type 0) (shelf : Shelved) (before after : Talk) (status : ℕ)
     → None ≡ it → Prints words_refused 1 before after status → Lives it rose shelf shelf before after status
@@ -65,9 +65,9 @@ pub lives_some : (it : Option Opened) (begun : Opened) (rose : Type 0) (shelf sh
 lives_some it begun rose shelf shelf' before after status is h =
     subst (λ (it : Option Opened). Lives it rose shelf shelf' before after status) is h
 
-pub greets : (d : Standing) (talk : Talk) (new : Printed) (after : Talk) (status : ℕ)
+pub greets : (d : Standing) (talk : Talk) (new : TalkPrinted) (after : Talk) (status : ℕ)
     (answer : Result (Unit {0}) SinkFault)
-    → d.position ≡ 0 → answer ≡ Ok tt → Puts greeting answer talk.out new
+    → d.position ≡ 0 → answer ≡ Ok tt → TalkPuts greeting answer talk.out new
     → IsSession (RepliesOf (source_of d.program) (account_of d)) (held_at d.position None) (talk_with talk new) after
     status
     → OpensRun talk after status (source_of d.program) d.limits d.input
@@ -75,7 +75,7 @@ greets d talk new after status answer start is puts session = inr (inr (record {
   fuel = MOST_COST;
   talk = talk_with talk new;
   greets = record {
-    puts = subst (λ (a : Result (Unit {0}) SinkFault). Puts greeting a talk.out new) is puts;
+    puts = subst (λ (a : Result (Unit {0}) SinkFault). TalkPuts greeting a talk.out new) is puts;
     lines = refl;
     heard = refl;
   };
@@ -84,13 +84,13 @@ greets d talk new after status answer start is puts session = inr (inr (record {
       session;
 }))
 
-pub greets_not : (d : Standing) (talk : Talk) (new : Printed) (status : ℕ) (answer : Result (Unit {0}) SinkFault)
-    (fault : SinkFault) → answer ≡ Err fault → Puts greeting answer talk.out new → status ≡ status_by 0 (Err fault)
+pub greets_not : (d : Standing) (talk : Talk) (new : TalkPrinted) (status : ℕ) (answer : Result (Unit {0}) SinkFault)
+    (fault : SinkFault) → answer ≡ Err fault → TalkPuts greeting answer talk.out new → status ≡ status_by 0 (Err fault)
     → OpensRun talk (talk_with talk new) status (source_of d.program) d.limits d.input
 greets_not d talk new status answer fault is puts status_is = inr (inl (record {
   fault = fault;
   says = record {
-    puts = subst (λ (a : Result (Unit {0}) SinkFault). Puts greeting a talk.out new) is puts;
+    puts = subst (λ (a : Result (Unit {0}) SinkFault). TalkPuts greeting a talk.out new) is puts;
     lines = refl;
     heard = refl;
   };
@@ -105,7 +105,7 @@ held d start talk after status is opens =
 
 -- ---- the texts
 
-pub refused_starts : (text given text' given' : List ℕ) (room : Room) (talk : Talk) (new : Printed) (status : ℕ)
+pub refused_starts : (text given text' given' : List ℕ) (room : Room) (talk : Talk) (new : TalkPrinted) (status : ℕ)
     (ready : Ready) (plan : Plan) (shown : List ℕ) (code : ℕ) → text' ≡ text → given' ≡ given
     → IsReadied (RefusesRun text' given' room) (CanRun text' given' room) 0 ready → ready ≡ Refused plan
     → shown ≡ string_bytes plan.text → code ≡ code_of plan.verdict → PutsOnce shown code talk.out new status
@@ -144,7 +144,7 @@ runs_start text given text' given' room talk after status ready setting text_is 
 -- ---- the files
 
 pub unread_lives : (it : Opened) (files : List Needed) (rose : Type 0) (shelf shelf' : Shelved) (talk : Talk)
-    (new : Printed) (status : ℕ) (why : NoPlan) (text : String Global) (shown : List ℕ) → files ≡ files_of it
+    (new : TalkPrinted) (status : ℕ) (why : NoPlan) (text : String Global) (shown : List ℕ) → files ≡ session_files it
     → Stops shelf.texts files rose shelf.calls shelf'.calls why → why ≡ Unread text
     → shown ≡ string_bytes text → PutsOnce shown 2 talk.out new status
     → Lives (Some it) rose shelf shelf' talk (talk_with talk new) status

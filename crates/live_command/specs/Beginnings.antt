@@ -27,8 +27,8 @@ pub data Opened : Type 0 where
   OfSource : (it : Begun) → Opened
   OfImage : (it : Loads) → Opened
 
-abbrev pub begun : Beginning → Begun
-begun it = record {
+abbrev pub session_begun : Beginning → Begun
+session_begun it = record {
   file = string_bytes it.file;
   room = it.room;
   input = option_map string_bytes it.input;
@@ -41,9 +41,9 @@ loads it = record {
   state = option_map string_bytes it.state;
 }
 
-abbrev pub opened : Opening → Opened
-opened (Source it) = OfSource (begun it)
-opened (Image it) = OfImage (loads it)
+abbrev pub session_opened : Opening → Opened
+session_opened (Source it) = OfSource (session_begun it)
+session_opened (Image it) = OfImage (loads it)
 
 -- the sizes of a memory that two words are
 abbrev pub room_with : (heap deep : Option ℕ) → Option Room

@@ -16,7 +16,7 @@ use Rattle.command_plan.specs.pisa_image.declared.error.ImageError.{ImageError}
 use Rattle.command_plan.specs.pisa_image.Reading.{image_at}
 use Rattle.command_plan.specs.pisa_loader.Limiting.{limits_refusal}
 use Rattle.command_plan.specs.pisa_loader.declared.error.LoadError.{LoadError}
-use Rattle.command_plan.specs.Files.{Needed, source, input_files, image_file, state_files}
+use Rattle.command_plan.specs.Files.{Needed, source_file, input_files, image_file, state_files}
 use Rattle.command_plan.specs.Reads.{Gave, StopsAt, ReadsSome}
 use Rattle.command_plan.specs.Plans.{Planned}
 use Rattle.command_plan.specs.command_ends.Statuses.{code_of}
@@ -24,15 +24,15 @@ use Rattle.command_plan.specs.Texts.{image_line, load_line}
 use Rattle.command_plan.specs.command_ends.declared.verdict.Verdict.TheVariants.{ImageRefused, InputRefused}
 use Rattle.plan_serving.specs.Outside.{Shelved}
 use Rattle.source_debugger.specs.Failures.{account}
-use Rattle.live_talks.specs.Talks.{Talk, Printed, Puts, Says, status_by}
+use Rattle.live_talks.specs.Talks.{Talk, TalkPrinted, TalkPuts, TalkSays, status_by}
 use Rattle.live_talks.specs.Sessions.{IsSession}
-use Rattle.live_talks.specs.Limits.{Held, held, WithLimits}
+use Rattle.live_talks.specs.Limits.{Held, held_run, WithLimits}
 use Rattle.live_session.specs.Sessions.{RepliesOf}
 use Rattle.pisa_isa.specs.Image.{Segments}
 use Rattle.pisa_isa.specs.Notes.{NotedImage}
 use Rattle.two_way_debugger.specs.pisa_machine.Position.{Position}
-use Rattle.image_commands.specs.ImagePlans.{first_of}
-use Rattle.live_images.specs.Sessions.{RepliesOf as RepliesAlong}
+use Rattle.image_commands.specs.ImagePlans.{position_at_start}
+use Rattle.live_images.specs.Sessions.{ImageRepliesOf as RepliesAlong}
 use Rattle.live_command.specs.Beginnings.{Opened, OfSource, OfImage}
 
 abbrev pub words_refused : List ℕ
@@ -54,15 +54,15 @@ abbrev pub LacksMemory : (before after : Talk) → (status : ℕ) → Type 0
 LacksMemory before after status = (after ≡ before) × (status ≡ 7)
 
 -- a text was put, once; the status is this one, if it was taken
-pub record PutsOnce (text : List ℕ) (taken : ℕ) (old new : Printed) (status : ℕ) : Type 0 where
+pub record PutsOnce (text : List ℕ) (taken : ℕ) (old new : TalkPrinted) (status : ℕ) : Type 0 where
   pub answer : Result (Unit {0}) SinkFault
-  pub puts : Puts text answer old new
+  pub puts : TalkPuts text answer old new
   pub status_is : status ≡ status_by taken answer
 
 -- a text is put, once, and nothing is asked; the status is this one, if the text was taken
 pub record Prints (text : List ℕ) (taken : ℕ) (before after : Talk) (status : ℕ) : Type 0 where
   pub answer : Result (Unit {0}) SinkFault
-  pub says : Says text answer before after
+  pub says : TalkSays text answer before after
   pub status_is : status ≡ status_by taken answer
 
 -- the greeting was put, and a session was held along the points of the run, with fuel enough, at
@@ -71,14 +71,14 @@ pub record HoldsSession (program : Source) (limits : Limits) (input : List Field
     (before after : Talk) (status : ℕ) : Type 0 where
   pub fuel : ℕ
   pub talk : Talk
-  pub greets : Says greeting (Ok tt) before talk
-  pub session : IsSession (RepliesOf program (account program limits input fuel)) (held 0 None) talk
+  pub greets : TalkSays greeting (Ok tt) before talk
+  pub session : IsSession (RepliesOf program (account program limits input fuel)) (held_run 0 None) talk
       after status
 
 -- the greeting was not taken
 pub record FailsToGreet (greeting : List ℕ) (before after : Talk) (status : ℕ) : Type 0 where
   pub fault : SinkFault
-  pub says : Says greeting (Err fault) before after
+  pub says : TalkSays greeting (Err fault) before after
   pub status_is : status ≡ status_by 0 (Err fault)
 
 -- what is done with the run of a program
@@ -90,7 +90,7 @@ OpensRun before after status program limits input =
     ⊎ HoldsSession program limits input before after status)
 
 -- the refusal that `trace` has of these texts is put, with its status
-pub record Refuses (text given : List ℕ) (room : Room) (before after : Talk) (status : ℕ)
+pub record RefusesSession (text given : List ℕ) (room : Room) (before after : Talk) (status : ℕ)
     : Type 0 where
   pub plan : Planned
   pub refuses : RefusesRun text given room plan
@@ -100,7 +100,7 @@ pub record Refuses (text given : List ℕ) (room : Room) (before after : Talk) (
 abbrev pub Starts : (text given : List ℕ) → (room : Room) → (before after : Talk) → (status : ℕ)
     → Type 0
 Starts text given room before after status =
-    LacksMemory before after status ⊎ (Refuses text given room before after status
+    LacksMemory before after status ⊎ (RefusesSession text given room before after status
     ⊎ RunsTo text given room (OpensRun before after status))
 
 -- ---- the run of an image
@@ -108,7 +108,7 @@ Starts text given room before after status =
 -- the greeting was put, and a session was held along the positions of the machine from one on
 pub record HoldsAlong (first : Held Position) (before after : Talk) (status : ℕ) : Type 0 where
   pub talk : Talk
-  pub greets : Says image_greeting (Ok tt) before talk
+  pub greets : TalkSays image_greeting (Ok tt) before talk
   pub session : IsSession (WithLimits RepliesAlong) first talk after status
 
 abbrev pub OpensAlong : (first : Held Position) → (before after : Talk) → (status : ℕ) → Type 0
@@ -121,13 +121,13 @@ abbrev pub OpensImage : Result Position LoadError → (before after : Talk) → 
 OpensImage (Err e) before after status =
     LacksMemory before after status
     ⊎ Prints (load_line e) (code_of ImageRefused) before after status
-OpensImage (Ok first) before after status = OpensAlong (held first None) before after status
+OpensImage (Ok first) before after status = OpensAlong (held_run first None) before after status
 
 abbrev pub StartsImage : Segments → Limits → (state : Option (List ℕ)) → (before after : Talk)
     → (status : ℕ) → Type 0
 StartsImage image limits state before after status =
     LacksMemory before after status
-    ⊎ OpensImage (first_of image limits state) before after status
+    ⊎ OpensImage (position_at_start image limits state) before after status
 
 -- the sizes of the memory are tried before the state
 abbrev pub SizesImage : Option LoadError → Segments → Limits → (state : Option (List ℕ))
@@ -152,9 +152,9 @@ ReadsImage (Ok n) room state before after status =
 -- ---- the files
 
 -- the files that the words name, in order
-abbrev pub files_of : Opened → List Needed
-files_of (OfSource it) = source it.file ∷ input_files it.input
-files_of (OfImage it) = image_file it.file ∷ state_files it.state
+abbrev pub session_files : Opened → List Needed
+session_files (OfSource it) = source_file it.file ∷ input_files it.input
+session_files (OfImage it) = image_file it.file ∷ state_files it.state
 
 -- what is done with their texts: the second one, if there is one, is the input of a source, or the
 -- state of an image
@@ -166,23 +166,23 @@ StartsBy (OfImage it) texts before after status =
     ReadsImage (image_at (get_or texts 0 [])) it.room (slice_get texts 1) before after status
 
 -- the files were read, each once and in order, and a session is begun of their texts
-pub record Begins (it : Opened) (shelf shelf' : Shelved) (before after : Talk) (status : ℕ)
+pub record BeginsSession (it : Opened) (shelf shelf' : Shelved) (before after : Talk) (status : ℕ)
     : Type 0 where
   pub texts : List (List ℕ)
-  pub gave : Gave shelf.texts (files_of it) texts shelf.calls shelf'.calls
+  pub gave : Gave shelf.texts (session_files it) texts shelf.calls shelf'.calls
   pub starts : StartsBy it texts before after status
 
 -- the files before one gave their texts, and that one could not be read: the line on it is put
-pub record LacksFile (it : Opened) (rose : Type 0) (shelf shelf' : Shelved) (before after : Talk)
+pub record SessionLacksFile (it : Opened) (rose : Type 0) (shelf shelf' : Shelved) (before after : Talk)
     (status : ℕ) : Type 0 where
   pub line : List ℕ
-  pub stops : StopsAt shelf.texts (files_of it) rose line shelf.calls shelf'.calls
+  pub stops : StopsAt shelf.texts (session_files it) rose line shelf.calls shelf'.calls
   pub prints : Prints line 2 before after status
 
 -- some first files were read, and then no memory was found
 pub record StopsReading (it : Opened) (shelf shelf' : Shelved) (before after : Talk) (status : ℕ)
     : Type 0 where
-  pub reads : ReadsSome (files_of it) shelf.calls shelf'.calls
+  pub reads : ReadsSome (session_files it) shelf.calls shelf'.calls
   pub lacks : LacksMemory before after status
 
 -- All that the words do, and the status. `rose` says that the count of faults of the file store
@@ -193,6 +193,6 @@ Lives None rose shelf shelf' before after status =
     (shelf' ≡ shelf) × (LacksMemory before after status
     ⊎ Prints words_refused 1 before after status)
 Lives (Some it) rose shelf shelf' before after status =
-    Begins it shelf shelf' before after status
-    ⊎ (LacksFile it rose shelf shelf' before after status
+    BeginsSession it shelf shelf' before after status
+    ⊎ (SessionLacksFile it rose shelf shelf' before after status
     ⊎ StopsReading it shelf shelf' before after status)

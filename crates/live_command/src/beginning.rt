@@ -1,8 +1,8 @@
 // The words that begin a session, and the files that they name.
 ghost use Rattle.std.specs.Prelude.{◌≡◌, map, option_map, string_bytes, IfOk};
 ghost use Rattle.plan_serving.specs.Wanted.{file_of};
-ghost use Rattle.live_command.specs.Beginnings.{begun, loads, opened, OfSource, OfImage, begin_of, source_begin, source_with, image_begin, image_with, room_of};
-ghost use Rattle.live_command.specs.Lives.{files_of};
+ghost use Rattle.live_command.specs.Beginnings.{session_begun, loads, session_opened, OfSource, OfImage, begin_of, source_begin, source_with, image_begin, image_with, room_of};
+ghost use Rattle.live_command.specs.Lives.{session_files};
 
 use command_plan::{MOST_IMAGE, MOST_STATE, Room};
 use pisa_loader::MOST_INPUT;
@@ -41,7 +41,7 @@ pub(crate) enum Opening {
 
 /// What the words begin, if they begin a session.
 pub(crate) fn read_opening(words: &[String]) -> Result<Option<Opening>, NoMemory>
-    ensures { IfOk result (λ it. option_map opened it ≡ begin_of (map string_bytes words.now)) }
+    ensures { IfOk result (λ it. option_map session_opened it ≡ begin_of (map string_bytes words.now)) }
 {
     let Some((name, args)) = words.split_first() else {
         return Ok(None);
@@ -54,7 +54,7 @@ pub(crate) fn read_opening(words: &[String]) -> Result<Option<Opening>, NoMemory
 }
 
 fn read_source(args: &[String]) -> Result<Option<Opening>, NoMemory>
-    ensures { IfOk result (λ it. option_map opened it ≡ source_begin (map string_bytes args.now)) }
+    ensures { IfOk result (λ it. option_map session_opened it ≡ source_begin (map string_bytes args.now)) }
 {
     match args {
         [file, heap, deep] => begins(file, read_room(heap, deep), None),
@@ -68,7 +68,7 @@ fn begins(
     room: Option<Room>,
     input: Option<String>,
 ) -> Result<Option<Opening>, NoMemory>
-    ensures { IfOk result (λ it. option_map opened it
+    ensures { IfOk result (λ it. option_map session_opened it
         ≡ source_with (string_bytes file.now) room (option_map string_bytes input)) }
 {
     let Some(room) = room else {
@@ -82,7 +82,7 @@ fn begins(
 }
 
 fn read_image_words(args: &[String]) -> Result<Option<Opening>, NoMemory>
-    ensures { IfOk result (λ it. option_map opened it ≡ image_begin (map string_bytes args.now)) }
+    ensures { IfOk result (λ it. option_map session_opened it ≡ image_begin (map string_bytes args.now)) }
 {
     match args {
         [file, heap, deep] => loads_image(file, read_room(heap, deep), None),
@@ -98,7 +98,7 @@ fn loads_image(
     room: Option<Room>,
     state: Option<String>,
 ) -> Result<Option<Opening>, NoMemory>
-    ensures { IfOk result (λ it. option_map opened it
+    ensures { IfOk result (λ it. option_map session_opened it
         ≡ image_with (string_bytes file.now) room (option_map string_bytes state)) }
 {
     let Some(room) = room else {
@@ -113,7 +113,7 @@ fn loads_image(
 
 /// The files that a session of a source reads, in order.
 pub(crate) fn wanted_files(alloc: Global, it: &Beginning) -> Result<Vec<Wanted>, AllocError>
-    ensures { IfOk result (λ files. map file_of files.items ≡ files_of (OfSource (begun it.now))) }
+    ensures { IfOk result (λ files. map file_of files.items ≡ session_files (OfSource (session_begun it.now))) }
 {
     let mut files = Vec::new(alloc);
     files.push(Wanted {
@@ -131,7 +131,7 @@ pub(crate) fn wanted_files(alloc: Global, it: &Beginning) -> Result<Vec<Wanted>,
 
 /// The files that a session of an image reads, in order.
 pub(crate) fn wanted_image(alloc: Global, it: &Loading) -> Result<Vec<Wanted>, AllocError>
-    ensures { IfOk result (λ files. map file_of files.items ≡ files_of (OfImage (loads it.now))) }
+    ensures { IfOk result (λ files. map file_of files.items ≡ session_files (OfImage (loads it.now))) }
 {
     let mut files = Vec::new(alloc);
     files.push(Wanted {

@@ -6,7 +6,7 @@ ghost use Rattle.run_settings.specs.rpp_words.declared.input.TheConstants.{MOST_
 ghost use Rattle.command_plan.specs.pisa_image.Reading.{image_at};
 ghost use Rattle.command_plan.specs.pisa_loader.Limiting.{limits_refusal};
 ghost use Rattle.command_plan.specs.pisa_loader.States.{Gives};
-ghost use Rattle.image_commands.specs.ImagePlans.{first_of};
+ghost use Rattle.image_commands.specs.ImagePlans.{position_at_start};
 ghost use Rattle.live_command.specs.Beginnings.{loads, OfImage};
 ghost use Rattle.live_command.specs.Lives.{Lives, ReadsImage, SizesImage, StartsImage, OpensAlong};
 ghost use Rattle.live_images.specs.Sessions.{held_in};
@@ -143,7 +143,7 @@ fn first_machine(
 ) -> Result<Machine, LoadError>
     requires { IsLimits limits }
     ensures { Gives (λ machine. machine) result
-        (first_of image limits (option_map (λ text. text.now) state.now)) }
+        (position_at_start image limits (option_map (λ text. text.now) state.now)) }
 {
     match state {
         Some(bytes) => load_state(alloc, image, limits, bytes),

@@ -6,7 +6,7 @@ ghost use Rattle.run_settings.specs.pisa_loader.declared.input.TheConstants.{MOS
 ghost use Rattle.run_settings.specs.rpp_ports.Ports.{Rose};
 ghost use Rattle.source_debugger.specs.Standing.{IsValidRun};
 ghost use Rattle.plan_serving.specs.Places.{held_bytes};
-ghost use Rattle.live_command.specs.Beginnings.{begun, OfSource, begin_of};
+ghost use Rattle.live_command.specs.Beginnings.{session_begun, OfSource, begin_of};
 ghost use Rattle.live_command.specs.Lives.{Lives, Starts, OpensRun};
 
 use crate::beginning::{Beginning, Opening, read_opening, wanted_files};
@@ -79,7 +79,7 @@ fn begin<S: Shelf, A: Asker, K: Sink>(
     asker: &mut A,
     out: &mut K,
 ) -> u8
-    ensures session { Lives (Some (OfSource (begun beginning.now)))
+    ensures session { Lives (Some (OfSource (session_begun beginning.now)))
         (Rose (S.faults shelf.old) (S.faults shelf.new))
         (record { texts = S.texts shelf.old; calls = S.events shelf.old })
         (record { texts = S.texts shelf.new; calls = S.events shelf.new })

@@ -5,10 +5,10 @@ use Rattle.pisa_scripts.specs.declared.command.Command.{Command}
 use Rattle.two_way_debugger.specs.pisa_machine.Position.{Position}
 use Rattle.live_requests.specs.debugger_scripts.Scripts.{script_of}
 use Rattle.two_way_debugger.specs.Shown.{shown}
-use Rattle.live_images.specs.Replies.{said_of}
+use Rattle.live_images.specs.Replies.{image_said_of}
 
 -- the lines of a script, one by one: without their last lines, the replies are what `debug` prints
 abbrev pub ScriptIsSessionAlong : Type 0
 ScriptIsSessionAlong =
     (script : List ℕ) (commands : List Command) (p : Position) → script_of script ≡ Ok commands
-    → said_of (pieces 10 (without_returns script)) p ≡ shown commands p
+    → image_said_of (pieces 10 (without_returns script)) p ≡ shown commands p

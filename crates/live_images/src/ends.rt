@@ -1,6 +1,6 @@
 // How the replies to commands and moves end.
 ghost use Rattle.std.specs.Prelude.{◌≡◌, ◌+◌, ◌-◌};
-ghost use Rattle.live_images.specs.Ends.{end_in as end_in_text, end_shown as shown_end, all_made as all_moves_made, end_carried as carried_end, end_of_all, end_moved as moved_end};
+ghost use Rattle.live_images.specs.Ends.{image_end_in as end_in_text, image_end_shown as shown_end, image_all_made as all_moves_made, image_end_carried as carried_end, image_end_of_all, image_end_moved as moved_end};
 ghost use Rattle.live_talks.specs.Ends.{has_letter};
 
 use image_searches::Outcome;
@@ -79,7 +79,7 @@ pub(crate) fn end_carried(
 
 // How moves end that were all made, by what they look for.
 fn end_all(goal: Goal) -> End
-    ensures { result ≡ end_of_all goal }
+    ensures { result ≡ image_end_of_all goal }
 {
     match goal {
         Goal::Points => End::Done,

@@ -4,7 +4,7 @@ ghost use Rattle.pisa_scripts.specs.Lines.{pieces as pieces_of};
 ghost use Rattle.live_requests.specs.Requests.{is_quit};
 ghost use Rattle.live_talks.specs.Serving.{PutsBy};
 ghost use Rattle.live_images.specs.Replies.{carried, spent, answered_by, answered_words};
-ghost use Rattle.live_images.specs.Sessions.{held_in, Gives, Replies};
+ghost use Rattle.live_images.specs.Sessions.{held_in, GivesAnswer, ImageReplies};
 
 use crate::run::Run;
 use crate::telling::{read_served, tell_carried, tell_moves, tell_spent};
@@ -27,7 +27,7 @@ fn say_carried<L: Ledger, K: Sink>(
     command: Command,
     out: &mut K,
 ) -> Option<u8>
-    ensures { PutsBy (Gives (carried run.old.limit command run.old.debugger) (held_in run.old))
+    ensures { PutsBy (GivesAnswer (carried run.old.limit command run.old.debugger) (held_in run.old))
         false ⊤ (held_in run.old) (held_in run.new)
         (record { bytes = K.written out.old; puts = K.puts out.old })
         (record { bytes = K.written out.new; puts = K.puts out.new }) result }
@@ -40,7 +40,7 @@ fn say_carried<L: Ledger, K: Sink>(
 
 // Puts the number of the position.
 fn say_spent<K: Sink>(alloc: Global, run: &mut Run, out: &mut K) -> Option<u8>
-    ensures { PutsBy (Gives (spent run.old.debugger) (held_in run.old))
+    ensures { PutsBy (GivesAnswer (spent run.old.debugger) (held_in run.old))
         false ⊤ (held_in run.old) (held_in run.new)
         (record { bytes = K.written out.old; puts = K.puts out.old })
         (record { bytes = K.written out.new; puts = K.puts out.new }) result }
@@ -60,7 +60,7 @@ fn say_moves<L: Ledger, K: Sink>(
     words: &[&[u8]],
     out: &mut K,
 ) -> Option<u8>
-    ensures { PutsBy (Gives (answered_by run.old.limit (Some ask)
+    ensures { PutsBy (GivesAnswer (answered_by run.old.limit (Some ask)
         (map (λ word. word.now) words.now) run.old.debugger) (held_in run.old))
         false ⊤ (held_in run.old) (held_in run.new)
         (record { bytes = K.written out.old; puts = K.puts out.old })
@@ -80,7 +80,7 @@ fn say_words<L: Ledger, K: Sink>(
     words: &[&[u8]],
     out: &mut K,
 ) -> Option<u8>
-    ensures { PutsBy (Gives (answered_words run.old.limit (map (λ word. word.now) words.now)
+    ensures { PutsBy (GivesAnswer (answered_words run.old.limit (map (λ word. word.now) words.now)
         run.old.debugger) (held_in run.old))
         false ⊤ (held_in run.old) (held_in run.new)
         (record { bytes = K.written out.old; puts = K.puts out.old })
@@ -100,7 +100,7 @@ fn say_asked<L: Ledger, K: Sink>(
     line: &[u8],
     out: &mut K,
 ) -> Option<u8>
-    ensures { PutsBy (Gives (answered_words run.old.limit (pieces_of 32 line.now)
+    ensures { PutsBy (GivesAnswer (answered_words run.old.limit (pieces_of 32 line.now)
         run.old.debugger) (held_in run.old))
         false ⊤ (held_in run.old) (held_in run.new)
         (record { bytes = K.written out.old; puts = K.puts out.old })
@@ -122,7 +122,7 @@ pub(crate) fn answer<L: Ledger, K: Sink>(
     line: &[u8],
     out: &mut K,
 ) -> Option<u8>
-    ensures { PutsBy (Replies request line.now (held_in run.old)) (is_quit request) ⊤
+    ensures { PutsBy (ImageReplies request line.now (held_in run.old)) (is_quit request) ⊤
         (held_in run.old) (held_in run.new)
         (record { bytes = K.written out.old; puts = K.puts out.old })
         (record { bytes = K.written out.new; puts = K.puts out.new }) result }

@@ -1,6 +1,6 @@
 // Runs that are held open.
 ghost use Rattle.std.specs.Prelude.{◌≡◌, None};
-ghost use Rattle.live_talks.specs.Limits.{held};
+ghost use Rattle.live_talks.specs.Limits.{held_run};
 ghost use Rattle.live_images.specs.Sessions.{held_in};
 
 use two_way_debugger::Debugger;
@@ -16,7 +16,7 @@ pub struct Run {
 impl Run {
     /// The run of a debugger, without a limit.
     pub fn new(debugger: Debugger) -> Run
-        ensures { held_in result ≡ held debugger None }
+        ensures { held_in result ≡ held_run debugger None }
     {
         Run {
             debugger,

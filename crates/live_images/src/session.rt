@@ -3,9 +3,9 @@ ghost use Rattle.std.specs.Prelude.{◌≤◌, length, ⊤};
 ghost use Rattle.pisa_scripts.specs.declared.lines.TheConstants.{MOST_SCRIPT};
 ghost use Rattle.live_port.specs.Heard.{Heard};
 ghost use Rattle.live_talks.specs.Limits.{WithLimits};
-ghost use Rattle.live_talks.specs.Serving.{PutsBy, Goes};
+ghost use Rattle.live_talks.specs.Serving.{PutsBy, Serves};
 ghost use Rattle.live_talks.specs.Sessions.{IsReply, IsSession, quits};
-ghost use Rattle.live_images.specs.Sessions.{RepliesOf, held_in};
+ghost use Rattle.live_images.specs.Sessions.{ImageRepliesOf, held_in};
 
 use crate::replying::answer;
 use crate::run::Run;
@@ -27,7 +27,7 @@ fn answer_line<L: Ledger, K: Sink>(
     out: &mut K,
 ) -> Option<u8>
     requires { length line.now ≤ MOST_SCRIPT }
-    ensures { PutsBy (IsReply (WithLimits RepliesOf) (Heard.Line line.now) (held_in run.old))
+    ensures { PutsBy (IsReply (WithLimits ImageRepliesOf) (Heard.Line line.now) (held_in run.old))
         (quits (Heard.Line line.now)) ⊤ (held_in run.old) (held_in run.new)
         (record { bytes = K.written out.old; puts = K.puts out.old })
         (record { bytes = K.written out.new; puts = K.puts out.new }) result }
@@ -46,7 +46,7 @@ fn exchange<L: Ledger, A: Asker, K: Sink>(
     asker: &mut A,
     out: &mut K,
 ) -> Option<u8>
-    ensures { Goes (WithLimits RepliesOf) (held_in run.old) (held_in run.new)
+    ensures { Serves (WithLimits ImageRepliesOf) (held_in run.old) (held_in run.new)
         (record {
           lines = A.lines asker.old;
           heard = A.events asker.old;
@@ -76,7 +76,7 @@ pub fn serve<L: Ledger, A: Asker, K: Sink>(
     asker: &mut A,
     out: &mut K,
 ) -> u8
-    ensures { IsSession (WithLimits RepliesOf) (held_in run.old)
+    ensures { IsSession (WithLimits ImageRepliesOf) (held_in run.old)
         (record {
           lines = A.lines asker.old;
           heard = A.events asker.old;

@@ -31,12 +31,12 @@ abbrev pub ends_in_return : List ℕ → Bool
 ends_in_return line = is_return (slice_get line (length line - 1))
 
 -- a line without a carriage return at its end
-abbrev pub without_return : List ℕ → List ℕ
-without_return line = if ends_in_return line then take (length line - 1) line else line
+abbrev pub line_without_return : List ℕ → List ℕ
+line_without_return line = if ends_in_return line then take (length line - 1) line else line
 
 -- what is heard of a line, if there is memory for it
 abbrev pub heard_of : List ℕ → Heard
-heard_of line = if nat_le (length line) MOST_LINE then Line (without_return line) else Long
+heard_of line = if nat_le (length line) MOST_LINE then Line (line_without_return line) else Long
 
 -- what is heard where these lines are to come
 abbrev pub next_of : List (List ℕ) → Heard
@@ -49,13 +49,13 @@ IsWithin (Line bytes) = length bytes ≤ MOST_LINE
 IsWithin it = ⊤
 
 -- this was heard of these lines
-abbrev pub IsNext : List (List ℕ) → Heard → Type 0
-IsNext lines Lost = ⊤
-IsNext lines Failed = ⊤
-IsNext lines it = it ≡ next_of lines
+abbrev pub IsNextLine : List (List ℕ) → Heard → Type 0
+IsNextLine lines Lost = ⊤
+IsNextLine lines Failed = ⊤
+IsNextLine lines it = it ≡ next_of lines
 
 -- lines that are known stay known: this was heard of the first of them, and the others are to come
-abbrev pub Tells : (before : Option (List (List ℕ))) → Heard → (after : Option (List (List ℕ)))
+abbrev pub TellsHeard : (before : Option (List (List ℕ))) → Heard → (after : Option (List (List ℕ)))
     → Type 0
-Tells None it after = ⊤
-Tells (Some lines) it after = IsNext lines it × (after ≡ Some (drop 1 lines))
+TellsHeard None it after = ⊤
+TellsHeard (Some lines) it after = IsNextLine lines it × (after ≡ Some (drop 1 lines))

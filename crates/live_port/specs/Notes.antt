@@ -2,5 +2,5 @@
 use Rattle.live_port.specs.declared.trail.Note.{Note}
 use Rattle.live_port.specs.Heard.{Heard, heard}
 
-abbrev pub event_of : Note → Heard
-event_of note = heard note.asked.now
+abbrev pub heard_of : Note → Heard
+heard_of note = heard note.asked.now

@@ -2,7 +2,7 @@
 ghost use Rattle.std.specs.Prelude.{◌≡◌, ◌≢◌, ◌≤◌, ◌∷◌, List, ℕ, vec_len};
 ghost use Rattle.std.specs.declared.option.Option.{Option};
 ghost use Rattle.live_port.specs.rpp_ports.Ports.{Rose};
-ghost use Rattle.live_port.specs.Heard.{Heard, heard, heard_of, ends_in_return as line_ends_in_return, without_return, IsWithin, Tells};
+ghost use Rattle.live_port.specs.Heard.{Heard, heard, heard_of, ends_in_return as line_ends_in_return, line_without_return, IsWithin, TellsHeard};
 
 /// The most bytes of a line, without its line feed.
 pub const MOST_LINE: usize = 4096;
@@ -40,7 +40,7 @@ pub trait Asker {
     /// only if the count of faults rose.
     fn next(&mut self) -> Asked
         ensures within { IsWithin (heard result) }
-        ensures told { Tells (lines self.old) (heard result) (lines self.new) }
+        ensures told { TellsHeard (lines self.old) (heard result) (lines self.new) }
         ensures noted { events self.new ≡ heard result ∷ events self.old }
         ensures cause { heard result ≡ Heard.Failed → Rose (faults self.old) (faults self.new) }
         ensures later { faults self.old ≤ faults self.new };
@@ -59,7 +59,7 @@ pub(crate) fn measured(line: Vec<u8>) -> Asked
 
 // The line without a carriage return at its end.
 fn drop_return(line: Vec<u8>) -> Vec<u8>
-    ensures items { result.items ≡ without_return line.items }
+    ensures items { result.items ≡ line_without_return line.items }
     ensures within { vec_len result ≤ vec_len line }
 {
     let mut line = line;

@@ -1,7 +1,7 @@
 // The lines of a reader. What they are is not known.
 ghost use Rattle.std.specs.Prelude.{◌≡◌, ◌≤◌, ◌∷◌, [], None};
 ghost use Rattle.live_port.specs.rpp_ports.Ports.{Rose};
-ghost use Rattle.live_port.specs.Heard.{Heard, heard, IsWithin, Tells};
+ghost use Rattle.live_port.specs.Heard.{Heard, heard, IsWithin, TellsHeard};
 
 use crate::asker::measured;
 use crate::trail::{Note, Trail};
@@ -96,7 +96,7 @@ impl<R: BufRead + Drop> Asker for InAsker<R> {
     // A failure is counted. What was heard is then noted.
     fn next(&mut self) -> Asked
         ensures within { IsWithin (heard result) }
-        ensures told { Tells None (heard result) None }
+        ensures told { TellsHeard None (heard result) None }
         ensures noted { self.new.trail.events ≡ heard result ∷ self.old.trail.events }
         ensures cause { heard result ≡ Heard.Failed → Rose self.old.faults self.new.faults }
         ensures later { self.old.faults ≤ self.new.faults }

@@ -1,7 +1,7 @@
 // Lines in memory.
 ghost use Rattle.std.specs.Prelude.{◌≡◌, ◌≤◌, ◌∷◌, [], Some, map};
 ghost use Rattle.live_port.specs.rpp_ports.Ports.{Rose};
-ghost use Rattle.live_port.specs.Heard.{Heard, heard, IsWithin, Tells};
+ghost use Rattle.live_port.specs.Heard.{Heard, heard, IsWithin, TellsHeard};
 ghost use Rattle.live_port.specs.Told.{asker_lines, asker_events};
 
 use crate::asker::measured;
@@ -30,7 +30,7 @@ impl MemoryAsker {
     // What is heard, which is still to be noted.
     fn take(&mut self) -> Asked
         ensures within { IsWithin (heard result) }
-        ensures told { Tells (Some (asker_lines self.old)) (heard result)
+        ensures told { TellsHeard (Some (asker_lines self.old)) (heard result)
             (Some (asker_lines self.new)) }
         ensures sound { heard result ≡ Heard.Failed → ⊥ }
         ensures unnoted { asker_events self.new ≡ asker_events self.old }
@@ -51,7 +51,7 @@ impl Asker for MemoryAsker {
 
     fn next(&mut self) -> Asked
         ensures within { IsWithin (heard result) }
-        ensures told { Tells (Some (asker_lines self.old)) (heard result)
+        ensures told { TellsHeard (Some (asker_lines self.old)) (heard result)
             (Some (asker_lines self.new)) }
         ensures noted { asker_events self.new ≡ heard result ∷ asker_events self.old }
         ensures cause { heard result ≡ Heard.Failed → Rose 0 0 }

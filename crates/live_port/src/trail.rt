@@ -25,7 +25,7 @@ impl Model for Trail {
 }
 
 impl Trail {
-    ghost use Rattle.live_port.specs.Notes.{event_of};
+    ghost use Rattle.live_port.specs.Notes.{heard_of};
 
     pub(crate) fn new() -> Trail
         ensures { result.events ≡ [] }
@@ -36,6 +36,6 @@ impl Trail {
     }
 
     pub(crate) fn note(&mut self, _note: &Note<'_>)
-        ensures { self.new.events ≡ event_of _note.now ∷ self.old.events }
+        ensures { self.new.events ≡ heard_of _note.now ∷ self.old.events }
     {}
 }

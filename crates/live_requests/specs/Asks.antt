@@ -13,13 +13,13 @@ use Rattle.live_requests.specs.declared.asks.Goal.TheVariants.{Cell}
 use Rattle.live_requests.specs.declared.asks.Ask.{Ask}
 
 -- at most so many moves, if that is a number
-abbrev pub at_most : Bool → Goal → Option ℕ → Option Ask
-at_most back goal None = None
-at_most back goal (Some most) = Some (record { back = back; goal = goal; most = most })
+abbrev pub ask_at_most : Bool → Goal → Option ℕ → Option Ask
+ask_at_most back goal None = None
+ask_at_most back goal (Some most) = Some (record { back = back; goal = goal; most = most })
 
 -- `points N`
 abbrev pub points_ask : Bool → List (List ℕ) → Option Ask
-points_ask back (count ∷ []) = at_most back Points (number_up_to MOST_POINTS count)
+points_ask back (count ∷ []) = ask_at_most back Points (number_up_to MOST_POINTS count)
 points_ask back _ = None
 
 abbrev pub and_number : Option ℕ → Bool → Bool
@@ -32,13 +32,13 @@ are_numbers (word ∷ words) = and_number (short_number word) (are_numbers words
 
 -- `any N P1 P2 ..`
 abbrev pub any_ask : Bool → List (List ℕ) → Option Ask
-any_ask back (count ∷ places) = if are_numbers places then at_most back Any (short_number count)
+any_ask back (count ∷ places) = if are_numbers places then ask_at_most back Any (short_number count)
     else None
 any_ask back [] = None
 
 abbrev pub depth_by : Bool → Option ℕ → Option ℕ → Option Ask
 depth_by back None count = None
-depth_by back (Some depth) count = at_most back (Depth depth) count
+depth_by back (Some depth) count = ask_at_most back (Depth depth) count
 
 -- `depth E N`
 abbrev pub depth_ask : Bool → List (List ℕ) → Option Ask
@@ -47,11 +47,11 @@ depth_ask back _ = None
 
 -- `until change NAME N`
 abbrev pub change_ask : Bool → (count : List ℕ) → Option Ask
-change_ask back count = at_most back Change (short_number count)
+change_ask back count = ask_at_most back Change (short_number count)
 
 abbrev pub cell_by : Bool → Option ℕ → Option ℕ → Option Ask
 cell_by back None count = None
-cell_by back (Some address) count = at_most back (Cell address) count
+cell_by back (Some address) count = ask_at_most back (Cell address) count
 
 -- `until change cell A N`
 abbrev pub cell_ask : Bool → (cell address count : List ℕ) → Option Ask

@@ -14,9 +14,9 @@ allowed None moves = moves
 allowed (Some most) moves = if nat_lt most moves then most else moves
 
 -- whether these are more moves than a limit allows
-abbrev pub is_over : (limit : Option ℕ) → (moves : ℕ) → Bool
-is_over None moves = false
-is_over (Some most) moves = nat_lt most moves
+abbrev pub is_over_limit : (limit : Option ℕ) → (moves : ℕ) → Bool
+is_over_limit None moves = false
+is_over_limit (Some most) moves = nat_lt most moves
 
 -- the command with no more moves than a limit allows
 abbrev pub limited : (limit : Option ℕ) → Command → Command
@@ -29,7 +29,7 @@ limited limit (Cells from count) = Cells from count
 
 -- whether a command asks for more moves than a limit allows
 abbrev pub is_cut : (limit : Option ℕ) → Command → Bool
-is_cut limit command = is_over limit (most_moves command)
+is_cut limit command = is_over_limit limit (most_moves command)
 
 -- moves that are asked for, with no more than a limit allows
 abbrev pub limited_ask : (limit : Option ℕ) → Ask → Ask
@@ -37,7 +37,7 @@ limited_ask limit ask = record ask { most = allowed limit ask.most }
 
 -- whether more moves are asked for than a limit allows
 abbrev pub is_cut_ask : (limit : Option ℕ) → Ask → Bool
-is_cut_ask limit ask = is_over limit ask.most
+is_cut_ask limit ask = is_over_limit limit ask.most
 
 -- the limit that a request sets, if it sets one
 abbrev pub limit_of : Request → Option ℕ

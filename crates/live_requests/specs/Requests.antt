@@ -16,13 +16,13 @@ use Rattle.live_requests.specs.declared.request.Request.TheVariants.{Quit}
 use Rattle.live_requests.specs.declared.request.Request.TheVariants.{Bad}
 
 -- one command, or none where the line is blank
-abbrev pub asked : List Command → Request
-asked [] = Nothing
-asked (command ∷ []) = Carry command
-asked (command ∷ other ∷ commands) = Bad
+abbrev pub request_asked : List Command → Request
+request_asked [] = Nothing
+request_asked (command ∷ []) = Carry command
+request_asked (command ∷ other ∷ commands) = Bad
 
 abbrev pub read_as : Result (List Command) ScriptError → Request
-read_as (Ok commands) = asked commands
+read_as (Ok commands) = request_asked commands
 read_as (Err e) = Bad
 
 -- of the commands of a script, only `cells` is asked of the step that fails
@@ -56,12 +56,12 @@ other_of line = if bytes_eq line (codes "heap") then Heap
     else if nat_lt (length line) 6 then Bad else long_of line
 
 -- the name of `value NAME`
-abbrev pub name_of : (line : List ℕ) → List ℕ
-name_of line = drop 6 line
+abbrev pub request_name : (line : List ℕ) → List ℕ
+request_name line = drop 6 line
 
 -- what a script of this one line does, or else another line
 abbrev pub or_other : (line : List ℕ) → Result (List Command) ScriptError → Request
-or_other line (Ok commands) = asked commands
+or_other line (Ok commands) = request_asked commands
 or_other line (Err e) = other_of line
 
 -- `quit`, `stack`, `fault`, or another line

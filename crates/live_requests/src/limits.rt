@@ -1,6 +1,6 @@
 // The limit on the moves of a request.
 ghost use Rattle.std.specs.Prelude.{◌≡◌};
-ghost use Rattle.live_requests.specs.Limited.{allowed as allowed_moves, is_over as is_over_limit, limited as limited_command, is_cut as is_cut_command, limited_ask as limited_moves, is_cut_ask as is_cut_moves, limit_of as limit_of_request};
+ghost use Rattle.live_requests.specs.Limited.{allowed as allowed_moves, is_over_limit as is_over_limit, limited as limited_command, is_cut as is_cut_command, limited_ask as limited_moves, is_cut_ask as is_cut_moves, limit_of as limit_of_request};
 ghost use Rattle.two_way_debugger.specs.Shown.{most_moves as most_of_command};
 
 use crate::asks::Ask;

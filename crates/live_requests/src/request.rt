@@ -4,7 +4,7 @@ ghost use Rattle.std.specs.Str.{bytes_eq};
 ghost use Rattle.pisa_scripts.specs.Lines.{short_number as short_number_of};
 ghost use Rattle.pisa_scripts.specs.declared.lines.TheConstants.{MOST_SCRIPT};
 ghost use Rattle.debugger_scripts.specs.Scripts.{script_of};
-ghost use Rattle.live_requests.specs.Requests.{asked, read_as, of_the_fault, of_a_call, of_a_limit, long_of, other_of, or_other, request_of, name_of, is_quit};
+ghost use Rattle.live_requests.specs.Requests.{request_asked, read_as, of_the_fault, of_a_call, of_a_limit, long_of, other_of, or_other, request_of, request_name, is_quit};
 
 use debugger_scripts::{ScriptError, read_script};
 use pisa_scripts::{Command, short_number};
@@ -163,7 +163,7 @@ fn cells_asked(request: Request) -> Request
 
 // A line has at most one command.
 fn asked_by(commands: &[Command]) -> Request
-    ensures { result ≡ asked commands.now }
+    ensures { result ≡ request_asked commands.now }
 {
     match commands {
         [] => Request::Nothing,
@@ -174,7 +174,7 @@ fn asked_by(commands: &[Command]) -> Request
 
 /// The name of `value NAME`.
 pub fn name_in(line: &[u8]) -> &[u8]
-    ensures { result.now ≡ name_of line.now }
+    ensures { result.now ≡ request_name line.now }
 {
     if line.len() < 6 {
         return &[];

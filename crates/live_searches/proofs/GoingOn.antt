@@ -7,9 +7,9 @@ use Rattle.source_debugger.specs.meaning_points.Trail.{Trail}
 use Rattle.source_debugger.specs.Walks.{Stand, Onward, Moves, Stays, Hidden, stand_at, onward}
 use Rattle.pisa_scripts.specs.declared.command.Command.{Command}
 use Rattle.source_debugger.specs.source_courses.declared.moves.TheConstants.{LAST_POSITION}
-use Rattle.source_debugger.specs.Shown.{Told, told_by, tells, line_at}
+use Rattle.source_debugger.specs.Shown.{Told, told_by, reply_at, line_at}
 use Rattle.live_searches.specs.declared.moves.Outcome.TheVariants.{Met, Stopped}
-use Rattle.live_searches.specs.Searches.{Found, found, and_seek, all_made, seek}
+use Rattle.live_searches.specs.Searches.{Found, search_found, and_seek, all_made, seek}
 use Rattle.live_searches.specs.SearchLaws.{then_more}
 
 none_some : {f : Found} → None ≡ Some f → ⊥
@@ -24,15 +24,15 @@ line_by j stand (Stays ending) = line_at j stand ending
 line_by j stand Moves = None
 line_by j stand Hidden = None
 
-no_moves : (next : ℕ → Option Found) (j : ℕ) (o : Option (List ℕ)) (f : Found) → all_made (tells j o) ≡ Some f
+no_moves : (next : ℕ → Option Found) (j : ℕ) (o : Option (List ℕ)) (f : Found) → all_made (reply_at j o) ≡ Some f
     → next j ≡ more next (Some f)
 no_moves next j None f e = absurd (none_some e)
 no_moves next j (Some text) f e = ap (more next) e
 
 by_tests : (told : Told) (few many next : ℕ → Option Found) (f : Found) (a b : Bool)
     → ((i : ℕ) → few i ≡ Some f → many i ≡ more next (Some f))
-    → (if a then found told Stopped else if b then found told Met else few told.position) ≡ Some f
-    → (if a then found told Stopped else if b then found told Met else many told.position) ≡ more next (Some f)
+    → (if a then search_found told Stopped else if b then search_found told Met else few told.position) ≡ Some f
+    → (if a then search_found told Stopped else if b then search_found told Met else many told.position) ≡ more next (Some f)
 by_tests told few many next f true b h e = ap (more next) e
 by_tests told few many next f false true h e = ap (more next) e
 by_tests told few many next f false false h e = h told.position e

@@ -7,7 +7,7 @@ use Rattle.source_debugger.specs.meaning_points.rpp_tree.Tree.{Source}
 use Rattle.source_debugger.specs.meaning_points.Trail.{Trail}
 use Rattle.pisa_scripts.specs.declared.command.Command.{Command}
 use Rattle.source_debugger.specs.Shown.{told_by}
-use Rattle.source_debugger.specs.Standing.{Standing, run_of}
+use Rattle.source_debugger.specs.Standing.{Standing, trail_of}
 use Rattle.live_searches.specs.declared.moves.Outcome.{Outcome}
 use Rattle.live_searches.specs.declared.moves.Outcome.TheVariants.{Made, Stopped}
 use Rattle.live_searches.specs.declared.moves.Step.TheVariants.{Gone, Stuck}
@@ -41,27 +41,27 @@ points_stuck program trail way m j k line told stuck = rw (told, stuck) refl
 
 -- so many moves were made, and their lines come before those of the others
 pub record IsListing (start : Standing) (way : Command) (n i : ℕ) (now : Standing) (text : List ℕ) : Type 0 where
-  pub whole : points (source_of start.program) (run_of start) way n start.position
-      ≡ behind_line text (points (source_of start.program) (run_of start) way (n - i) now.position)
+  pub whole : points (source_of start.program) (trail_of start) way n start.position
+      ≡ behind_line text (points (source_of start.program) (trail_of start) way (n - i) now.position)
   pub same : IsSameRun start now
 
 pub listing_begins : (start : Standing) (way : Command) (n : ℕ) (text : List ℕ) → text ≡ []
     → IsListing start way n 0 start text
 listing_begins start way n text empty = record {
-  whole = sym (ap (λ (t : List ℕ). behind_line t (points (source_of start.program) (run_of start) way (n - 0)
+  whole = sym (ap (λ (t : List ℕ). behind_line t (points (source_of start.program) (trail_of start) way (n - 0)
       start.position)) empty
-      ∙ behind_nothing (points (source_of start.program) (run_of start) way (n - 0) start.position)
-      ∙ ap (λ (m : ℕ). points (source_of start.program) (run_of start) way m start.position) (sym (all_left n)));
+      ∙ behind_nothing (points (source_of start.program) (trail_of start) way (n - 0) start.position)
+      ∙ ap (λ (m : ℕ). points (source_of start.program) (trail_of start) way m start.position) (sym (all_left n)));
   same = refl;
 }
 
 -- what is left begins with one more move
 whole_next : (start now : Standing) (way : Command) (n i : ℕ) (text : List ℕ) → i < n
     → IsListing start way n i now text
-    → points (source_of start.program) (run_of start) way n start.position
-    ≡ behind_line text (points (source_of start.program) (run_of start) way (suc (n - (i + 1))) now.position)
+    → points (source_of start.program) (trail_of start) way n start.position
+    ≡ behind_line text (points (source_of start.program) (trail_of start) way (suc (n - (i + 1))) now.position)
 whole_next start now way n i text less h =
-    h.whole ∙ ap (λ (m : ℕ). behind_line text (points (source_of start.program) (run_of start) way m now.position))
+    h.whole ∙ ap (λ (m : ℕ). behind_line text (points (source_of start.program) (trail_of start) way m now.position))
     (one_less n i less)
 
 pub listing_goes : (start before after : Standing) (way : Command) (n i : ℕ) (old new : List ℕ) → i < n
@@ -71,10 +71,10 @@ listing_goes start before after way n i old new less h goes =
     let line : List ℕ = goes.0.line in
     let told = told_at_start start before way (record { position = after.position; text = line }) h.same
     goes.0.told in
-    let rest : Option Found = points (source_of start.program) (run_of start) way (n - (i + 1)) after.position in
+    let rest : Option Found = points (source_of start.program) (trail_of start) way (n - (i + 1)) after.position in
     record {
       whole = whole_next start before way n i old less h
-          ∙ ap (behind_line old) (points_gone (source_of start.program) (run_of start) way (n - (i + 1))
+          ∙ ap (behind_line old) (points_gone (source_of start.program) (trail_of start) way (n - (i + 1))
           before.position after.position line told goes.1)
           ∙ behind_twice old line rest
           ∙ ap (λ (t : List ℕ). behind_line t rest) (sym goes.0.added);
@@ -83,21 +83,21 @@ listing_goes start before after way n i old new less h goes =
 
 pub listing_stops : (start before after : Standing) (way : Command) (n i : ℕ) (old new : List ℕ) → i < n
     → IsListing start way n i before old → Goes before way after old new Stuck
-    → points (source_of start.program) (run_of start) way n start.position ≡ found_at after.position new Stopped
+    → points (source_of start.program) (trail_of start) way n start.position ≡ found_at after.position new Stopped
 listing_stops start before after way n i old new less h goes =
     let line : List ℕ = goes.0.line in
     let told = told_at_start start before way (record { position = after.position; text = line }) h.same
     goes.0.told in
     whole_next start before way n i old less h
-    ∙ ap (behind_line old) (points_stuck (source_of start.program) (run_of start) way (n - (i + 1)) before.position
+    ∙ ap (behind_line old) (points_stuck (source_of start.program) (trail_of start) way (n - (i + 1)) before.position
     after.position line told goes.1)
     ∙ ap (λ (t : List ℕ). found_at after.position t Stopped) (sym goes.0.added)
 
 pub listing_over : (start now : Standing) (way : Command) (n i : ℕ) (text : List ℕ) → n ≤ i
     → IsListing start way n i now text
-    → points (source_of start.program) (run_of start) way n start.position ≡ found_at now.position text Made
+    → points (source_of start.program) (trail_of start) way n start.position ≡ found_at now.position text Made
 listing_over start now way n i text all h =
     h.whole
-    ∙ ap (λ (m : ℕ). behind_line text (points (source_of start.program) (run_of start) way m now.position))
+    ∙ ap (λ (m : ℕ). behind_line text (points (source_of start.program) (trail_of start) way m now.position))
     (none_left n i all)
     ∙ ap (λ (t : List ℕ). found_at now.position t Made) (append-nil text)

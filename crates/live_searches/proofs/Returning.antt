@@ -10,7 +10,7 @@ use Rattle.live_requests.specs.declared.asks.Goal.{Goal}
 use Rattle.live_requests.specs.declared.asks.Goal.TheVariants.{Points}
 use Rattle.live_searches.specs.declared.moves.Moved.{Moved}
 use Rattle.live_searches.specs.Steps.{IsSameRun}
-use Rattle.live_searches.specs.Goals.{mark_at, wanted}
+use Rattle.live_searches.specs.Goals.{search_mark_at, wanted}
 use Rattle.live_searches.specs.Searches.{Found, points, seek}
 use Rattle.live_searches.specs.Makings.{made_by, made}
 use Rattle.live_searches.proofs.Single.{same_run}
@@ -37,16 +37,16 @@ made_points program trail ask arguments j k way result goal_is way_is h =
 pub made_seek : (program : Source) (trail : Trail) (ask : Ask) (arguments : List (List ℕ)) (j k : ℕ) (g : Goal)
     {E : Type 0} (result : Result Moved E) → ask.goal ≡ g
     → made_by program trail g (way_of ask.back) arguments ask.most j
-    ≡ seek program trail (way_of ask.back) (wanted program trail g arguments (mark_at program trail arguments j))
+    ≡ seek program trail (way_of ask.back) (wanted program trail g arguments (search_mark_at program trail arguments j))
     ask.most j
     → IfOk result (λ (it : Moved). seek program trail (way_of ask.back)
-    (wanted program trail ask.goal arguments (mark_at program trail arguments j)) ask.most j
+    (wanted program trail ask.goal arguments (search_mark_at program trail arguments j)) ask.most j
     ≡ found_at k (string_bytes it.text) it.how)
     → IfOk result (λ (it : Moved). made program trail ask arguments j ≡ found_at k (string_bytes it.text) it.how)
 unfolding made
 made_seek program trail ask arguments j k g result goal_is is h =
     subst (λ (o : Option Found). IfOk result (λ (it : Moved). o ≡ found_at k (string_bytes it.text) it.how))
     (ap (λ (g : Goal). seek program trail (way_of ask.back)
-    (wanted program trail g arguments (mark_at program trail arguments j)) ask.most j) goal_is
+    (wanted program trail g arguments (search_mark_at program trail arguments j)) ask.most j) goal_is
     ∙ sym is
     ∙ sym (ap (λ (g : Goal). made_by program trail g (way_of ask.back) arguments ask.most j) goal_is)) h

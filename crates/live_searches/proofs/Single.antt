@@ -5,7 +5,7 @@ use Rattle.std.specs.Prelude.{Option, nat_eq, if◌then◌else◌}
 use Rattle.source_debugger.specs.meaning_points.rpp_tree.Views.{source_of}
 use Rattle.pisa_scripts.specs.declared.command.Command.{Command}
 use Rattle.source_debugger.specs.Shown.{Told, told_by, and_told}
-use Rattle.source_debugger.specs.Standing.{Standing, run_of, Leads}
+use Rattle.source_debugger.specs.Standing.{Standing, trail_of, CommandsLead}
 use Rattle.live_searches.specs.declared.moves.Step.{Step}
 use Rattle.live_searches.specs.declared.moves.Step.TheVariants.{Gone, Stuck, Lost}
 use Rattle.live_searches.specs.Steps.{IsSameRun, LeadsBy, Goes}
@@ -17,11 +17,11 @@ one_told (Some s) t e =
     ap (λ (x : List ℕ). Some (record { position = s.position; text = x })) (sym (append-nil s.text)) ∙ e
 
 -- what a single command printed
-pub leads_told : (before after : Standing) (way : Command) (line : List ℕ) → Leads before (way ∷ []) after line
-    → told_by (source_of before.program) (run_of before) way before.position
+pub leads_told : (before after : Standing) (way : Command) (line : List ℕ) → CommandsLead before (way ∷ []) after line
+    → told_by (source_of before.program) (trail_of before) way before.position
     ≡ Some (record { position = after.position; text = line })
 leads_told before after way line leads =
-    one_told (told_by (source_of before.program) (run_of before) way before.position)
+    one_told (told_by (source_of before.program) (trail_of before) way before.position)
     (record { position = after.position; text = line }) leads.told
 
 by_stuck : (before after : Standing) (way : Command) (old new : List ℕ) (stuck : Bool)
@@ -31,7 +31,7 @@ by_stuck before after way old new true l e = (l, e)
 by_stuck before after way old new false l e = (l, e)
 
 pub goes_by : (before after : Standing) (way : Command) (old new line : List ℕ) (from : ℕ) (stuck : Bool) (step : Step)
-    → Leads before (way ∷ []) after line → new ≡ old ++ line → from ≡ before.position
+    → CommandsLead before (way ∷ []) after line → new ≡ old ++ line → from ≡ before.position
     → stuck ≡ nat_eq after.position from → step ≡ (if stuck then Stuck else Gone)
     → Goes before way after old new step
 goes_by before after way old new line from stuck step leads added from_is stuck_is step_is =
@@ -64,7 +64,7 @@ goes_same before after way old new (Lost lack) g = stays_same before after g
 
 -- the run that a command was given in is that of the start
 pub told_at_start : (start before : Standing) (way : Command) (t : Told) → IsSameRun start before
-    → told_by (source_of before.program) (run_of before) way before.position ≡ Some t
-    → told_by (source_of start.program) (run_of start) way before.position ≡ Some t
+    → told_by (source_of before.program) (trail_of before) way before.position ≡ Some t
+    → told_by (source_of start.program) (trail_of start) way before.position ≡ Some t
 told_at_start start before way t same told =
-    subst (λ (d : Standing). told_by (source_of d.program) (run_of d) way before.position ≡ Some t) same told
+    subst (λ (d : Standing). told_by (source_of d.program) (trail_of d) way before.position ≡ Some t) same told

@@ -11,7 +11,7 @@ use Rattle.source_debugger.specs.declared.looking.Seen.{Seen}
 use Rattle.source_debugger.specs.declared.looking.Seen.TheVariants.{At, End}
 use Rattle.source_debugger.specs.Looks.{seen_of}
 use Rattle.source_debugger.specs.Walks.{Stand, stand_at}
-use Rattle.source_debugger.specs.Shown.{regs_at, cells_at}
+use Rattle.source_debugger.specs.Shown.{regs_at, cells_shown_at}
 use Rattle.live_requests.specs.declared.asks.Goal.{Goal}
 use Rattle.live_requests.specs.declared.asks.Goal.TheVariants.{Points, Any, Depth, Change}
 use Rattle.live_requests.specs.declared.asks.Goal.TheVariants.{Cell}
@@ -54,12 +54,12 @@ lines_from start (line ∷ lines) =
     kept_line (starts_with nat_eq line start) line ++ lines_from start lines
 
 -- the same of a text
-abbrev pub lines_by : (start : List ℕ) → (text : List ℕ) → List ℕ
-lines_by start text = lines_from start (pieces 10 text)
+abbrev pub prefixed_lines : (start : List ℕ) → (text : List ℕ) → List ℕ
+prefixed_lines start text = lines_from start (pieces 10 text)
 
 -- an object, or none for the variables of the method that runs, and how the lines of the field,
 -- element or variable begin
-pub record Watch : Type 0 where
+pub record SearchWatch : Type 0 where
   pub object : Option ℕ
   pub start : List ℕ
 
@@ -68,32 +68,32 @@ abbrev pub object_number : List ℕ → Option ℕ
 object_number [] = None
 object_number (b ∷ digits) = if nat_eq b 35 then number_up_to (2 ^ 32 - 1) digits else None
 
-abbrev pub object_watch : (start : List ℕ) → Option ℕ → Option Watch
+abbrev pub object_watch : (start : List ℕ) → Option ℕ → Option SearchWatch
 object_watch start None = None
 object_watch start (Some object) = Some (record { object = Some object; start = start })
 
 -- `#K` and the label of a field or element, which a byte parts; its lines begin with `before`
-abbrev pub cell_watch : (before : List ℕ) → List (List ℕ) → Option Watch
+abbrev pub cell_watch : (before : List ℕ) → List (List ℕ) → Option SearchWatch
 cell_watch before (object ∷ label ∷ []) =
     object_watch (before ++ (label ++ codes " = ")) (object_number object)
 cell_watch before _ = None
 
-abbrev pub or_watch : Option Watch → Watch → Watch
+abbrev pub or_watch : Option SearchWatch → SearchWatch → SearchWatch
 or_watch None other = other
 or_watch (Some watch) other = watch
 
-abbrev pub variable_watch : List ℕ → Watch
+abbrev pub variable_watch : List ℕ → SearchWatch
 variable_watch name = record { object = None; start = name ++ codes " = " }
 
 -- `#K.FIELD`, `#K[I]`, or else a variable or field NAME of the method that runs
-unfoldable pub watch_of : List ℕ → Watch
+unfoldable pub watch_of : List ℕ → SearchWatch
 watch_of name = or_watch (cell_watch (codes "  ") (pieces 46 name))
     (or_watch (cell_watch (codes "  [") (pieces 91 name)) (variable_watch name))
 
 -- what `cells K 1` prints, or `regs`
 abbrev pub shown_for : Source → (object : Option ℕ) → Stand → Option (List ℕ)
 shown_for program None stand = regs_at program stand
-shown_for program (Some object) stand = cells_at program object 1 stand
+shown_for program (Some object) stand = cells_shown_at program object 1 stand
 
 -- an object is watched in all calls
 abbrev pub depth_for : (object : Option ℕ) → Seen → ℕ
@@ -105,30 +105,30 @@ pub record Sight : Type 0 where
   pub depth : ℕ
   pub lines : List ℕ
 
-abbrev pub sight : Watch → Option Seen → (shown : Option (List ℕ)) → Option Sight
+abbrev pub sight : SearchWatch → Option Seen → (shown : Option (List ℕ)) → Option Sight
 sight watch None shown = None
 sight watch (Some seen) None = None
 sight watch (Some seen) (Some text) = Some (record {
   depth = depth_for watch.object seen;
-  lines = lines_by watch.start text;
+  lines = prefixed_lines watch.start text;
 })
 
-unfoldable pub sight_at : Source → Trail → Watch → ℕ → Option Sight
+unfoldable pub sight_at : Source → Trail → SearchWatch → ℕ → Option Sight
 sight_at program trail watch j = sight watch (seen_of (stand_at trail j))
     (shown_for program watch.object (stand_at trail j))
 
 -- what is watched, and how it was at the beginning
-pub record Mark : Type 0 where
-  pub watch : Watch
+pub record SearchMark : Type 0 where
+  pub watch : SearchWatch
   pub sight : Sight
 
-abbrev pub mark : Watch → Option Sight → Option Mark
+abbrev pub mark : SearchWatch → Option Sight → Option SearchMark
 mark watch None = None
 mark watch (Some sight) = Some (record { watch = watch; sight = sight })
 
 -- the first of the arguments is watched from a position on
-abbrev pub mark_at : Source → Trail → (arguments : List (List ℕ)) → ℕ → Option Mark
-mark_at program trail arguments j = mark (watch_of (first_argument arguments))
+abbrev pub search_mark_at : Source → Trail → (arguments : List (List ℕ)) → ℕ → Option SearchMark
+search_mark_at program trail arguments j = mark (watch_of (first_argument arguments))
     (sight_at program trail (watch_of (first_argument arguments)) j)
 
 -- fewer calls are active, or as many and the lines are not the same
@@ -141,9 +141,9 @@ is_changed from None = false
 is_changed from (Some here) = is_change from here
 
 -- whether what is watched has changed at a position
-abbrev pub changed_at : Source → Trail → Option Mark → ℕ → Bool
-changed_at program trail None j = false
-changed_at program trail (Some from) j =
+abbrev pub is_changed_at : Source → Trail → Option SearchMark → ℕ → Bool
+is_changed_at program trail None j = false
+is_changed_at program trail (Some from) j =
     is_changed from.sight (sight_at program trail from.watch j)
 
 -- ---- goals
@@ -157,10 +157,10 @@ depth_met most None = false
 depth_met most (Some seen) = nat_le (depth_of seen) most
 
 -- whether moves look for a position that began with this mark; a run of a source has no cells
-unfoldable pub wanted : Source → Trail → Goal → (arguments : List (List ℕ)) → (from : Option Mark)
+unfoldable pub wanted : Source → Trail → Goal → (arguments : List (List ℕ)) → (from : Option SearchMark)
     → ℕ → Bool
 wanted program trail Points arguments from j = false
 wanted program trail Any arguments from j = any_met arguments (seen_of (stand_at trail j))
 wanted program trail (Depth most) arguments from j = depth_met most (seen_of (stand_at trail j))
-wanted program trail Change arguments from j = changed_at program trail from j
+wanted program trail Change arguments from j = is_changed_at program trail from j
 wanted program trail (Cell address) arguments from j = false

@@ -7,7 +7,7 @@ use Rattle.pisa_scripts.specs.declared.command.Command.TheVariants.{Step, Back}
 use Rattle.live_requests.specs.declared.asks.Ask.{Ask}
 use Rattle.live_requests.specs.declared.asks.Goal.{Goal}
 use Rattle.live_requests.specs.declared.asks.Goal.TheVariants.{Points}
-use Rattle.live_searches.specs.Goals.{mark_at, wanted}
+use Rattle.live_searches.specs.Goals.{search_mark_at, wanted}
 use Rattle.live_searches.specs.Searches.{Found, points, seek}
 use Rattle.live_requests.specs.Asks.{way_of}
 
@@ -16,7 +16,7 @@ abbrev pub made_by : Source → Trail → Goal → (way : Command) → (argument
 made_by program trail Points way arguments n j = points program trail way n j
 made_by program trail goal way arguments n j =
     seek program trail way
-    (wanted program trail goal arguments (mark_at program trail arguments j)) n j
+    (wanted program trail goal arguments (search_mark_at program trail arguments j)) n j
 
 -- moves from a position on, as they are asked for
 unfoldable pub made : Source → Trail → Ask → (arguments : List (List ℕ)) → ℕ → Option Found

@@ -15,8 +15,8 @@ pub record Found : Type 0 where
   pub text : List ℕ
   pub how : Outcome
 
-abbrev pub found : Told → Outcome → Option Found
-found told how = Some (record { position = told.position; text = told.text; how = how })
+abbrev pub search_found : Told → Outcome → Option Found
+search_found told how = Some (record { position = told.position; text = told.text; how = how })
 
 -- a line before what is printed
 abbrev pub behind_line : List ℕ → Option Found → Option Found
@@ -27,7 +27,7 @@ behind_line line (Some f) =
 -- a move from a position and then others, unless it leads nowhere
 abbrev pub and_points : (from : ℕ) → Option Told → (ℕ → Option Found) → Option Found
 and_points from None next = None
-and_points from (Some told) next = if nat_eq told.position from then found told Stopped
+and_points from (Some told) next = if nat_eq told.position from then search_found told Stopped
     else behind_line told.text (next told.position)
 
 -- the lines of the next n positions, up to a move that leads nowhere
@@ -41,12 +41,12 @@ points program trail way (suc n) j =
 abbrev pub and_seek : (wanted : ℕ → Bool) → (from : ℕ) → Option Told → (ℕ → Option Found)
     → Option Found
 and_seek wanted from None next = None
-and_seek wanted from (Some told) next = if nat_eq told.position from then found told Stopped
-    else if wanted told.position then found told Met else next told.position
+and_seek wanted from (Some told) next = if nat_eq told.position from then search_found told Stopped
+    else if wanted told.position then search_found told Met else next told.position
 
 abbrev pub all_made : Option Told → Option Found
 all_made None = None
-all_made (Some told) = found told Made
+all_made (Some told) = search_found told Made
 
 -- the first position at most n moves further that the search looks for, up to a move that leads
 -- nowhere

@@ -4,7 +4,7 @@ use Rattle.source_debugger.specs.meaning_points.rpp_tree.Views.{source_of}
 use Rattle.pisa_scripts.specs.declared.command.Command.{Command}
 use Rattle.pisa_scripts.specs.declared.command.Command.TheVariants as command
 use Rattle.source_debugger.specs.Shown.{told_by}
-use Rattle.source_debugger.specs.Standing.{Standing, run_of}
+use Rattle.source_debugger.specs.Standing.{Standing, trail_of}
 use Rattle.live_searches.specs.declared.moves.Step.{Step}
 use Rattle.live_searches.specs.declared.moves.Step.TheVariants.{Gone, Stuck, Lost}
 
@@ -16,7 +16,7 @@ IsSameRun before after = after ≡ record before { position = after.position }
 pub record LeadsBy (before : Standing) (way : Command) (after : Standing) (old new : List ℕ)
     : Type 0 where
   pub line : List ℕ
-  pub told : told_by (source_of before.program) (run_of before) way before.position
+  pub told : told_by (source_of before.program) (trail_of before) way before.position
       ≡ Some (record { position = after.position; text = line })
   pub added : new ≡ old ++ line
   pub same : IsSameRun before after

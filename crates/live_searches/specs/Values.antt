@@ -29,6 +29,6 @@ abbrev pub value_by : (start text : List ℕ) → Option (List ℕ)
 value_by start text = option_map value_line (last_value start None (pieces 10 text))
 
 -- the line on the value of a name at a position, if the position is known and the name is there
-unfoldable pub value_at : Source → Trail → (name : List ℕ) → ℕ → Option (Option (List ℕ))
-value_at program trail name j = option_map (value_by (watch_of name).start)
+unfoldable pub variable_value_at : Source → Trail → (name : List ℕ) → ℕ → Option (Option (List ℕ))
+variable_value_at program trail name j = option_map (value_by (watch_of name).start)
     (shown_for program (watch_of name).object (stand_at trail j))

@@ -4,9 +4,9 @@ ghost use Rattle.std.specs.Option.{option_map};
 ghost use Rattle.source_debugger.specs.meaning_points.rpp_tree.Views.{source_of};
 ghost use Rattle.source_debugger.specs.Looks.{seen_of};
 ghost use Rattle.source_debugger.specs.Walks.{stand_at};
-ghost use Rattle.source_debugger.specs.Standing.{run_of};
-ghost use Rattle.live_searches.specs.Goals.{is_place as is_place_of, is_any as is_any_of, has_any as has_any_of, depth_of, kept_line, lines_from, lines_by as lines_of_start, shown_for, depth_for as depth_of_watch, sight_at, mark_at, is_change as is_change_of, changed_at, any_met, depth_met, wanted as wanted_at};
-ghost use Rattle.live_searches.specs.Sights.{watch_in, sight_of, mark_of, look_of};
+ghost use Rattle.source_debugger.specs.Standing.{trail_of};
+ghost use Rattle.live_searches.specs.Goals.{is_place as is_place_of, is_any as is_any_of, has_any as has_any_of, depth_of, kept_line, lines_from, prefixed_lines as lines_of_start, shown_for, depth_for as depth_of_watch, sight_at, search_mark_at, is_change as is_change_of, is_changed_at, any_met, depth_met, wanted as wanted_at};
+ghost use Rattle.live_searches.specs.Sights.{watch_in, sight_of, kept_mark_of, look_of};
 ghost use Rattle.live_requests.specs.Asks.{first_argument};
 
 use crate::watches::{Watch, read_watch};
@@ -126,7 +126,7 @@ fn watched_lines(
 ) -> Result<Vec<u8>, NoMemory>
     ensures told { IfOk result (λ lines. option_map (lines_of_start watch.now.start.items)
         (shown_for (source_of debugger.old.program) watch.now.object
-        (stand_at (run_of debugger.old) debugger.old.position)) ≡ Some lines.items) }
+        (stand_at (trail_of debugger.old) debugger.old.position)) ≡ Some lines.items) }
     ensures stays { debugger.new ≡ debugger.old }
 {
     let mut text = String::new(alloc);
@@ -161,7 +161,7 @@ fn make_glance(
     watch: &Watch,
 ) -> Result<Glance, NoMemory>
     ensures told { IfOk result (λ glance. sight_at (source_of debugger.old.program)
-        (run_of debugger.old) (watch_in watch.now) debugger.old.position
+        (trail_of debugger.old) (watch_in watch.now) debugger.old.position
         ≡ Some (sight_of glance)) }
     ensures stays { debugger.new ≡ debugger.old }
 {
@@ -179,9 +179,9 @@ pub(crate) fn make_mark(
     debugger: &mut SourceDebugger<'_>,
     arguments: &[&[u8]],
 ) -> Result<Mark, NoMemory>
-    ensures told { IfOk result (λ mark. mark_at (source_of debugger.old.program)
-        (run_of debugger.old) (map (λ word. word.now) arguments.now) debugger.old.position
-        ≡ Some (mark_of mark)) }
+    ensures told { IfOk result (λ mark. search_mark_at (source_of debugger.old.program)
+        (trail_of debugger.old) (map (λ word. word.now) arguments.now) debugger.old.position
+        ≡ Some (kept_mark_of mark)) }
     ensures stays { debugger.new ≡ debugger.old }
 {
     let watch = read_watch(alloc, first_word(arguments))?;
@@ -215,7 +215,7 @@ fn any_here(
     arguments: &[&[u8]],
 ) -> Result<bool, NoMemory>
     ensures told { IfOk result (λ met. met ≡ any_met (map (λ word. word.now) arguments.now)
-        (seen_of (stand_at (run_of debugger.old) debugger.old.position))) }
+        (seen_of (stand_at (trail_of debugger.old) debugger.old.position))) }
     ensures stays { debugger.new ≡ debugger.old }
 {
     let seen = debugger.look(alloc)?;
@@ -225,7 +225,7 @@ fn any_here(
 // Whether at most so many calls are active at the position.
 fn depth_here(alloc: Global, debugger: &mut SourceDebugger<'_>, most: u64) -> Result<bool, NoMemory>
     ensures told { IfOk result (λ met. met ≡ depth_met most
-        (seen_of (stand_at (run_of debugger.old) debugger.old.position))) }
+        (seen_of (stand_at (trail_of debugger.old) debugger.old.position))) }
     ensures stays { debugger.new ≡ debugger.old }
 {
     let seen = debugger.look(alloc)?;
@@ -238,8 +238,8 @@ fn change_here(
     debugger: &mut SourceDebugger<'_>,
     from: &Mark,
 ) -> Result<bool, NoMemory>
-    ensures told { IfOk result (λ met. met ≡ changed_at (source_of debugger.old.program)
-        (run_of debugger.old) (Some (mark_of from.now)) debugger.old.position) }
+    ensures told { IfOk result (λ met. met ≡ is_changed_at (source_of debugger.old.program)
+        (trail_of debugger.old) (Some (kept_mark_of from.now)) debugger.old.position) }
     ensures stays { debugger.new ≡ debugger.old }
 {
     let here = make_glance(alloc, debugger, &from.watch)?;
@@ -255,8 +255,8 @@ pub(crate) fn wanted(
     from: &Mark,
 ) -> Result<bool, NoMemory>
     ensures told { IfOk result (λ met. met ≡ wanted_at (source_of debugger.old.program)
-        (run_of debugger.old) goal (map (λ word. word.now) arguments.now)
-        (Some (mark_of from.now)) debugger.old.position) }
+        (trail_of debugger.old) goal (map (λ word. word.now) arguments.now)
+        (Some (kept_mark_of from.now)) debugger.old.position) }
     ensures stays { debugger.new ≡ debugger.old }
 {
     match goal {

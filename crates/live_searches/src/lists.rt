@@ -1,7 +1,7 @@
 // Lists of positions.
 ghost use Rattle.std.specs.Prelude.{◌≡◌, IfOk, string_bytes, Some};
 ghost use Rattle.source_debugger.specs.meaning_points.rpp_tree.Views.{source_of};
-ghost use Rattle.source_debugger.specs.Standing.{run_of};
+ghost use Rattle.source_debugger.specs.Standing.{trail_of};
 ghost use Rattle.live_searches.specs.Steps.{IsSameRun};
 ghost use Rattle.live_searches.specs.Searches.{points as points_of};
 
@@ -20,7 +20,7 @@ pub(crate) fn points(
     most: u64,
 ) -> Result<Moved, NoMemory>
     ensures told { IfOk result (λ moved. points_of (source_of debugger.old.program)
-        (run_of debugger.old) way most debugger.old.position
+        (trail_of debugger.old) way most debugger.old.position
         ≡ Some (record {
           position = debugger.new.position;
           text = string_bytes moved.text;

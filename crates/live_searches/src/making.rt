@@ -1,7 +1,7 @@
 // Moves that are asked for.
 ghost use Rattle.std.specs.Prelude.{◌≡◌, ◌-◌, IfOk, IsErrOf, true, string_bytes, Some, map};
 ghost use Rattle.source_debugger.specs.meaning_points.rpp_tree.Views.{source_of};
-ghost use Rattle.source_debugger.specs.Standing.{run_of};
+ghost use Rattle.source_debugger.specs.Standing.{trail_of};
 ghost use Rattle.live_searches.specs.Steps.{IsSameRun};
 ghost use Rattle.live_searches.specs.Makings.{made, return_way};
 
@@ -53,7 +53,7 @@ fn make_on(
     arguments: &[&[u8]],
 ) -> Result<Moved, NoMemory>
     ensures told { IfOk result (λ moved. made (source_of debugger.old.program)
-        (run_of debugger.old) ask (map (λ word. word.now) arguments.now) debugger.old.position
+        (trail_of debugger.old) ask (map (λ word. word.now) arguments.now) debugger.old.position
         ≡ Some (record {
           position = debugger.new.position;
           text = string_bytes moved.text;
@@ -79,7 +79,7 @@ pub fn make(
     arguments: &[&[u8]],
 ) -> Result<Moved, Lost>
     ensures told { IfOk result (λ moved. made (source_of debugger.old.program)
-        (run_of debugger.old) ask (map (λ word. word.now) arguments.now) debugger.old.position
+        (trail_of debugger.old) ask (map (λ word. word.now) arguments.now) debugger.old.position
         ≡ Some (record {
           position = debugger.new.position;
           text = string_bytes moved.text;

@@ -2,12 +2,12 @@
 ghost use Rattle.std.specs.Prelude.{◌≡◌, IfOk, string_bytes, Some, map};
 ghost use Rattle.source_debugger.specs.meaning_points.rpp_tree.Views.{source_of};
 ghost use Rattle.source_debugger.specs.Shown.{told_by};
-ghost use Rattle.source_debugger.specs.Standing.{run_of};
+ghost use Rattle.source_debugger.specs.Standing.{trail_of};
 ghost use Rattle.live_searches.specs.Steps.{IsSameRun};
-ghost use Rattle.live_searches.specs.Goals.{mark_at, wanted as wanted_at};
-ghost use Rattle.live_searches.specs.Sights.{mark_of};
+ghost use Rattle.live_searches.specs.Goals.{search_mark_at, wanted as wanted_at};
+ghost use Rattle.live_searches.specs.Sights.{kept_mark_of};
 ghost use Rattle.live_searches.specs.Searches.{seek as seek_in, all_made};
-ghost use Rattle.live_searches.specs.Turns.{IsTurn, IsJudged};
+ghost use Rattle.live_searches.specs.Turns.{IsTurn, IsTurnJudged};
 ghost use Rattle.live_requests.specs.Asks.{way_of};
 
 use crate::goals::{Mark, make_mark, wanted};
@@ -38,9 +38,9 @@ fn judge(
     from: &Mark,
     line: String,
 ) -> Turn
-    ensures judged { IsJudged (string_bytes line) (wanted_at (source_of debugger.old.program)
-        (run_of debugger.old) ask.goal (map (λ word. word.now) arguments.now)
-        (Some (mark_of from.now)) debugger.old.position) result }
+    ensures judged { IsTurnJudged (string_bytes line) (wanted_at (source_of debugger.old.program)
+        (trail_of debugger.old) ask.goal (map (λ word. word.now) arguments.now)
+        (Some (kept_mark_of from.now)) debugger.old.position) result }
     ensures stays { debugger.new ≡ debugger.old }
 {
     match wanted(alloc, debugger, ask.goal, arguments, from) {
@@ -69,8 +69,8 @@ fn make_turn(
     from: &Mark,
 ) -> Turn
     ensures turned { IsTurn debugger.old (way_of ask.back)
-        (wanted_at (source_of debugger.old.program) (run_of debugger.old) ask.goal
-        (map (λ word. word.now) arguments.now) (Some (mark_of from.now)))
+        (wanted_at (source_of debugger.old.program) (trail_of debugger.old) ask.goal
+        (map (λ word. word.now) arguments.now) (Some (kept_mark_of from.now)))
         debugger.new result }
     ensures same { IsSameRun debugger.old debugger.new }
 {
@@ -90,7 +90,7 @@ fn make_turn(
 // The line on the position, where all moves are made.
 fn stop(alloc: Global, debugger: &mut SourceDebugger<'_>) -> Result<Moved, NoMemory>
     ensures told { IfOk result (λ moved. all_made (told_by (source_of debugger.old.program)
-        (run_of debugger.old) (Command.Step 0) debugger.old.position)
+        (trail_of debugger.old) (Command.Step 0) debugger.old.position)
         ≡ Some (record {
           position = debugger.new.position;
           text = string_bytes moved.text;
@@ -115,9 +115,9 @@ fn seek_on(
     from: &Mark,
 ) -> Result<Moved, NoMemory>
     ensures told { IfOk result (λ moved. seek_in (source_of debugger.old.program)
-        (run_of debugger.old) (way_of ask.back)
-        (wanted_at (source_of debugger.old.program) (run_of debugger.old) ask.goal
-        (map (λ word. word.now) arguments.now) (Some (mark_of from.now)))
+        (trail_of debugger.old) (way_of ask.back)
+        (wanted_at (source_of debugger.old.program) (trail_of debugger.old) ask.goal
+        (map (λ word. word.now) arguments.now) (Some (kept_mark_of from.now)))
         ask.most debugger.old.position
         ≡ Some (record {
           position = debugger.new.position;
@@ -144,10 +144,10 @@ pub(crate) fn seek(
     arguments: &[&[u8]],
 ) -> Result<Moved, NoMemory>
     ensures told { IfOk result (λ moved. seek_in (source_of debugger.old.program)
-        (run_of debugger.old) (way_of ask.back)
-        (wanted_at (source_of debugger.old.program) (run_of debugger.old) ask.goal
+        (trail_of debugger.old) (way_of ask.back)
+        (wanted_at (source_of debugger.old.program) (trail_of debugger.old) ask.goal
         (map (λ word. word.now) arguments.now)
-        (mark_at (source_of debugger.old.program) (run_of debugger.old)
+        (search_mark_at (source_of debugger.old.program) (trail_of debugger.old)
         (map (λ word. word.now) arguments.now) debugger.old.position))
         ask.most debugger.old.position
         ≡ Some (record {

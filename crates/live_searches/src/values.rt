@@ -1,8 +1,8 @@
 // The value of a name.
 ghost use Rattle.std.specs.Prelude.{◌≡◌, ◌++◌, IfOk, Some, None, map, option_map};
 ghost use Rattle.source_debugger.specs.meaning_points.rpp_tree.Views.{source_of};
-ghost use Rattle.source_debugger.specs.Standing.{run_of};
-ghost use Rattle.live_searches.specs.Values.{value_in as value_in_line, last_value as last_value_of, value_line as line_of_value, value_by as value_of_start, value_at};
+ghost use Rattle.source_debugger.specs.Standing.{trail_of};
+ghost use Rattle.live_searches.specs.Values.{value_in as value_in_line, last_value as last_value_of, value_line as line_of_value, value_by as value_of_start, variable_value_at};
 
 use crate::goals::look_command;
 use crate::watches::read_watch;
@@ -65,8 +65,8 @@ pub fn tell_value(
     debugger: &mut SourceDebugger<'_>,
     name: &[u8],
 ) -> Result<Option<Vec<u8>>, NoMemory>
-    ensures told { IfOk result (λ line. value_at (source_of debugger.old.program)
-        (run_of debugger.old) name.now debugger.old.position
+    ensures told { IfOk result (λ line. variable_value_at (source_of debugger.old.program)
+        (trail_of debugger.old) name.now debugger.old.position
         ≡ Some (option_map (λ line. line.items) line)) }
     ensures stays { debugger.new ≡ debugger.old }
 {

@@ -6,15 +6,15 @@ use Rattle.source_debugger.specs.Standing.{Standing}
 use Rattle.source_debugger.specs.Failures.{account_of}
 use Rattle.live_searches.specs.Steps.{IsSameRun}
 use Rattle.live_talks.specs.Talks.{Talk}
-use Rattle.live_talks.specs.Serving.{Goes}
+use Rattle.live_talks.specs.Serving.{Serves}
 use Rattle.live_talks.specs.Limits.{Held}
 use Rattle.live_session.specs.Sessions.{RepliesOf}
 
 pub goes_along : (start before : Standing) (from to : Held ℕ) (talk talk' : Talk) (result it : Option ℕ)
     → IsSameRun start before → result ≡ it
-    → Goes (RepliesOf (source_of before.program) (account_of before)) from to talk talk' result
-    → Goes (RepliesOf (source_of start.program) (account_of start)) from to talk talk' it
+    → Serves (RepliesOf (source_of before.program) (account_of before)) from to talk talk' result
+    → Serves (RepliesOf (source_of start.program) (account_of start)) from to talk talk' it
 goes_along start before from to talk talk' result it same is goes =
-    subst (λ (r : Option ℕ). Goes (RepliesOf (source_of start.program) (account_of start)) from to talk talk' r) is
-    (subst (λ (d : Standing). Goes (RepliesOf (source_of d.program) (account_of d)) from to talk talk' result) same
+    subst (λ (r : Option ℕ). Serves (RepliesOf (source_of start.program) (account_of start)) from to talk talk' r) is
+    (subst (λ (d : Standing). Serves (RepliesOf (source_of d.program) (account_of d)) from to talk talk' result) same
     goes)

@@ -9,7 +9,7 @@ use Rattle.source_debugger.specs.declared.failing.Detail.{Detail}
 use Rattle.source_debugger.specs.declared.failing.Detail.TheVariants as details
 use Rattle.source_debugger.specs.Failures.{Account, account_of, shown_of, fails_at}
 use Rattle.live_session.specs.Replies.{look_reply, value_reply, or_none, replied, RepliesCall}
-use Rattle.live_session.specs.Serving.{Answers, request_for}
+use Rattle.live_session.specs.Serving.{AnswersRequest, request_for}
 
 -- what is asked of the step that fails, if one does
 failure_is : (program : Source) (account : Account) (limit : Option ℕ) (detail : Detail) (j : ℕ)
@@ -21,9 +21,9 @@ failure_is program account limit (details.Cells from count) j = refl
 pub failure_told : (before after : Standing) (limit : Option ℕ) (detail : Detail) (o : Option (List ℕ))
     (reply : List ℕ) → after ≡ before
     → o ≡ fails_at (account_of before) (shown_of (source_of before.program) detail) before.position
-    → reply ≡ or_none o → Answers before limit (request_for detail) after reply
+    → reply ≡ or_none o → AnswersRequest before limit (request_for detail) after reply
 failure_told before after limit detail o reply stays is shown =
-    subst (λ (d : Standing). Answers before limit (request_for detail) d reply) (sym stays)
+    subst (λ (d : Standing). AnswersRequest before limit (request_for detail) d reply) (sym stays)
     (record {
       replied = failure_is (source_of before.program) (account_of before) limit detail before.position
           ∙ sym (ap (look_reply before.position) is)

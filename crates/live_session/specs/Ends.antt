@@ -21,9 +21,8 @@ abbrev pub is_short : (most from to : ℕ) → Bool
 is_short most from to = nat_lt (to - from + (from - to)) most
 
 -- How moves ended, by the line on them. It is `at J place P depth D` or `at J end`, and then
--- perhaps
--- ` start` or ` fault C NAME`. Only a fault has an f, else only ` start` has an s, else only ` end`
--- has an n. `short` says that fewer were made than were allowed.
+-- perhaps ` start` or ` fault C NAME`. Only a fault has an f, else only ` start` has an s, else
+-- only ` end` has an n. `short` says that fewer were made than were allowed.
 abbrev pub end_in : (short : Bool) → List ℕ → End
 end_in short text = if has_letter 102 text then Fault else if has_letter 115 text then Start
     else if has_letter 110 text && short then Over else Done
@@ -38,13 +37,13 @@ end_shown Regs from to text = Done
 end_shown (Cells number count) from to text = Done
 
 -- whether all moves were made that a command asks for
-abbrev pub all_made : Command → (from to : ℕ) → Bool
-all_made command from to = not (is_short (most_moves command) from to)
+abbrev pub all_moves_made : Command → (from to : ℕ) → Bool
+all_moves_made command from to = not (is_short (most_moves command) from to)
 
 -- how the reply to a command ends, of which a limit allows so much
 abbrev pub end_carried : (limit : Option ℕ) → Command → (from to : ℕ) → List ℕ → End
 end_carried limit command from to text =
-    end_cut (is_cut limit command) (all_made (limited limit command) from to)
+    end_cut (is_cut limit command) (all_moves_made (limited limit command) from to)
     (end_shown (limited limit command) from to text)
 
 -- how moves end that were all made, by what they look for

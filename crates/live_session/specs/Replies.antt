@@ -16,12 +16,12 @@ use Rattle.live_requests.specs.declared.request.Request.TheVariants.{Nothing, Ca
 use Rattle.live_requests.specs.declared.request.Request.TheVariants.{RegsOf, Fault, FaultCells}
 use Rattle.live_requests.specs.declared.request.Request.TheVariants.{Value, Heap, Spend, Limit}
 use Rattle.live_requests.specs.declared.request.Request.TheVariants.{Quit, Bad}
-use Rattle.live_requests.specs.Requests.{request_of, name_of}
+use Rattle.live_requests.specs.Requests.{request_of, request_name}
 use Rattle.live_requests.specs.Asks.{ask_of, arguments}
 use Rattle.live_requests.specs.Limited.{limited, limited_ask, limit_of, limit_after}
 use Rattle.live_searches.specs.Searches.{Found}
 use Rattle.live_searches.specs.Makings.{made}
-use Rattle.live_searches.specs.Values.{value_at}
+use Rattle.live_searches.specs.Values.{variable_value_at}
 use Rattle.live_talks.specs.declared.ends.End.{End}
 use Rattle.live_talks.specs.declared.ends.End.TheVariants as end
 use Rattle.live_talks.specs.Ends.{end_line}
@@ -49,26 +49,26 @@ said program account limit (FaultCells from count) j = Some (record {
 said program account limit _ j = Some (record { position = j; text = [] })
 
 -- how the reply to a request ends that was given at a position
-abbrev pub end_of : (limit : Option ℕ) → Request → (from : ℕ) → Told → End
-end_of limit Nothing from told = end.Done
-end_of limit (Carry command) from told = end_carried limit command from told.position told.text
-end_of limit Stack from told = end.Done
-end_of limit (RegsOf depth) from told = end.Done
-end_of limit Fault from told = end.Done
-end_of limit (FaultCells number count) from told = end.Done
-end_of limit Value from told = end.Done
-end_of limit Heap from told = end.Done
-end_of limit Spend from told = end.Done
-end_of limit (Limit most) from told = end.Done
-end_of limit Quit from told = end.Bye
-end_of limit Bad from told = end.Bad
+abbrev pub reply_end : (limit : Option ℕ) → Request → (from : ℕ) → Told → End
+reply_end limit Nothing from told = end.Done
+reply_end limit (Carry command) from told = end_carried limit command from told.position told.text
+reply_end limit Stack from told = end.Done
+reply_end limit (RegsOf depth) from told = end.Done
+reply_end limit Fault from told = end.Done
+reply_end limit (FaultCells number count) from told = end.Done
+reply_end limit Value from told = end.Done
+reply_end limit Heap from told = end.Done
+reply_end limit Spend from told = end.Done
+reply_end limit (Limit most) from told = end.Done
+reply_end limit Quit from told = end.Bye
+reply_end limit Bad from told = end.Bad
 
 abbrev pub with_end : (limit : Option ℕ) → Request → (from : ℕ) → Option Told → Option Told
 with_end limit request from None = None
 with_end limit request from (Some told) =
     Some (record {
       position = told.position;
-      text = told.text ++ end_line (end_of limit request from told);
+      text = told.text ++ end_line (reply_end limit request from told);
     })
 
 -- lines with their last line; there may be nothing to say
@@ -101,8 +101,8 @@ along None = None
 along (Some ask) = if is_cell ask.goal then None else Some ask
 
 -- the moves that words ask for along the points of a run
-abbrev pub moves_of : (words : List (List ℕ)) → Option Ask
-moves_of words = along (ask_of words)
+abbrev pub asked_moves : (words : List (List ℕ)) → Option Ask
+asked_moves words = along (ask_of words)
 
 -- what a reply says before its last line: what moves print that the words ask for, or nothing
 abbrev pub told_of : Option Found → Option Told
@@ -143,16 +143,16 @@ value_reply j (Some line) = look_reply j line
 abbrev pub said_to : Source → Account → (limit : Option ℕ) → Request → (line : List ℕ) → ℕ
     → Option Told
 said_to program account limit Bad line j =
-    said_by program account limit (moves_of (pieces 32 line)) (pieces 32 line) j
+    said_by program account limit (asked_moves (pieces 32 line)) (pieces 32 line) j
 said_to program account limit request line j = said program account limit request j
 
 -- the reply to a line, by the request that it is read as
 abbrev pub replied_to : Source → Account → (limit : Option ℕ) → Request → (line : List ℕ) → ℕ
     → Option Told
 replied_to program account limit Bad line j =
-    replied_by program account limit (moves_of (pieces 32 line)) (pieces 32 line) j
+    replied_by program account limit (asked_moves (pieces 32 line)) (pieces 32 line) j
 replied_to program account limit Value line j =
-    value_reply j (value_at program account.trail (name_of line) j)
+    value_reply j (variable_value_at program account.trail (request_name line) j)
 replied_to program account limit request line j = replied program account limit request j
 
 -- a reply with such a text, which leads nowhere

@@ -35,7 +35,7 @@ RepliesMoves program account limit ask words from reply to =
     ≡ Some (record { position = to; text = reply })
 
 -- a debugger gave the reply to a request
-pub record Answers (before : Standing) (limit : Option ℕ) (request : Request) (after : Standing)
+pub record AnswersRequest (before : Standing) (limit : Option ℕ) (request : Request) (after : Standing)
     (reply : List ℕ) : Type 0 where
   pub replied : RepliesTo (source_of before.program) (account_of before) limit request
       before.position reply after.position

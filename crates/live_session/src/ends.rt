@@ -1,6 +1,6 @@
 // How the replies to commands and moves end.
 ghost use Rattle.std.specs.Prelude.{◌≡◌, ◌+◌, ◌-◌};
-ghost use Rattle.live_session.specs.Ends.{is_short as is_short_of, end_in as end_in_text, end_shown as shown_end, all_made as are_all_made, end_carried as carried_end, end_of_all, end_moved as moved_end, is_made as is_made_outcome, end_asked as asked_end};
+ghost use Rattle.live_session.specs.Ends.{is_short as is_short_of, end_in as end_in_text, end_shown as shown_end, all_moves_made as are_all_made, end_carried as carried_end, end_of_all, end_moved as moved_end, is_made as is_made_outcome, end_asked as asked_end};
 ghost use Rattle.live_talks.specs.Ends.{has_letter};
 
 use live_requests::{Ask, Goal, is_cut, is_cut_ask, limited, most_of};

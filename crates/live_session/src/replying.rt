@@ -7,7 +7,7 @@ ghost use Rattle.live_requests.specs.declared.request.Request.TheVariants.{Carry
 ghost use Rattle.live_requests.specs.Requests.{is_quit};
 ghost use Rattle.live_talks.specs.Talks.{PutsText};
 ghost use Rattle.live_talks.specs.Serving.{OrMemory, PutsBy};
-ghost use Rattle.live_session.specs.Replies.{along as moves_along, moves_of, IsReplyOf};
+ghost use Rattle.live_session.specs.Replies.{along as moves_along, asked_moves, IsReplyOf};
 ghost use Rattle.live_searches.specs.Steps.{IsSameRun};
 ghost use Rattle.live_session.specs.Serving.{RepliesTo, RepliesMoves, made_or_memory};
 
@@ -117,7 +117,7 @@ fn say_words<K: Sink>(
     out: &mut K,
 ) -> Option<u8>
     ensures puts { PutsBy (OrMemory (RepliesMoves (source_of debugger.old.program)
-        (account_of debugger.old) limit (moves_of (map (λ word. word.now) words.now))
+        (account_of debugger.old) limit (asked_moves (map (λ word. word.now) words.now))
         (map (λ word. word.now) words.now) debugger.old.position) debugger.old.position) false ⊤
         debugger.old.position debugger.new.position
         (record { bytes = K.written out.old; puts = K.puts out.old })
@@ -139,7 +139,7 @@ fn say_asked<K: Sink>(
     out: &mut K,
 ) -> Option<u8>
     ensures puts { PutsBy (OrMemory (RepliesMoves (source_of debugger.old.program)
-        (account_of debugger.old) limit (moves_of (pieces_of 32 line.now)) (pieces_of 32 line.now)
+        (account_of debugger.old) limit (asked_moves (pieces_of 32 line.now)) (pieces_of 32 line.now)
         debugger.old.position) debugger.old.position) false ⊤ debugger.old.position
         debugger.new.position (record { bytes = K.written out.old; puts = K.puts out.old })
         (record { bytes = K.written out.new; puts = K.puts out.new }) result }

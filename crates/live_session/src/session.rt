@@ -6,8 +6,8 @@ ghost use Rattle.source_debugger.specs.Failures.{account_of};
 ghost use Rattle.live_port.specs.Heard.{Heard};
 ghost use Rattle.live_searches.specs.Steps.{IsSameRun};
 ghost use Rattle.live_talks.specs.Sessions.{IsReply, quits, IsSession};
-ghost use Rattle.live_talks.specs.Serving.{PutsBy, Goes};
-ghost use Rattle.live_talks.specs.Limits.{held};
+ghost use Rattle.live_talks.specs.Serving.{PutsBy, Serves};
+ghost use Rattle.live_talks.specs.Limits.{held_run};
 ghost use Rattle.live_session.specs.Sessions.{RepliesOf};
 
 use crate::replying::answer;
@@ -29,9 +29,9 @@ fn answer_line<K: Sink>(
 ) -> Option<u8>
     requires { length line.now ≤ MOST_SCRIPT }
     ensures puts { PutsBy (IsReply (RepliesOf (source_of debugger.old.program)
-        (account_of debugger.old)) (Heard.Line line.now) (held debugger.old.position limit.old))
-        (quits (Heard.Line line.now)) ⊤ (held debugger.old.position limit.old)
-        (held debugger.new.position limit.new)
+        (account_of debugger.old)) (Heard.Line line.now) (held_run debugger.old.position limit.old))
+        (quits (Heard.Line line.now)) ⊤ (held_run debugger.old.position limit.old)
+        (held_run debugger.new.position limit.new)
         (record { bytes = K.written out.old; puts = K.puts out.old })
         (record { bytes = K.written out.new; puts = K.puts out.new }) result }
     ensures same { IsSameRun debugger.old debugger.new }
@@ -56,8 +56,8 @@ fn exchange<A: Asker, K: Sink>(
     asker: &mut A,
     out: &mut K,
 ) -> Option<u8>
-    ensures goes { Goes (RepliesOf (source_of debugger.old.program) (account_of debugger.old))
-        (held debugger.old.position limit.old) (held debugger.new.position limit.new)
+    ensures goes { Serves (RepliesOf (source_of debugger.old.program) (account_of debugger.old))
+        (held_run debugger.old.position limit.old) (held_run debugger.new.position limit.new)
         (record {
           lines = A.lines asker.old;
           heard = A.events asker.old;
@@ -88,7 +88,7 @@ pub fn serve<A: Asker, K: Sink>(
     out: &mut K,
 ) -> u8
     ensures { IsSession (RepliesOf (source_of debugger.old.program) (account_of debugger.old))
-        (held debugger.old.position None)
+        (held_run debugger.old.position None)
         (record {
           lines = A.lines asker.old;
           heard = A.events asker.old;

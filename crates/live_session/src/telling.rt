@@ -3,13 +3,13 @@ ghost use Rattle.std.specs.Prelude.{◌≡◌, ◌++◌, IfOk, IsErrOf, map, opt
 ghost use Rattle.source_debugger.specs.meaning_points.rpp_tree.Views.{source_of};
 ghost use Rattle.source_debugger.specs.Failures.{account_of};
 ghost use Rattle.live_requests.specs.declared.request.Request.TheVariants.{Carry};
-ghost use Rattle.live_requests.specs.Requests.{name_of};
+ghost use Rattle.live_requests.specs.Requests.{request_name};
 ghost use Rattle.live_searches.specs.Steps.{IsSameRun};
-ghost use Rattle.live_searches.specs.Values.{value_at};
+ghost use Rattle.live_searches.specs.Values.{variable_value_at};
 ghost use Rattle.live_talks.specs.Ends.{end_line as line_of_end};
 ghost use Rattle.live_session.specs.Ends.{end_carried as end_of_command, end_asked as end_of_moves};
 ghost use Rattle.live_session.specs.Replies.{or_none as or_none_of, value_reply, RepliesStack, RepliesCall, RepliesHeap, RepliesCost};
-ghost use Rattle.live_session.specs.Serving.{Answers, request_for, Moves};
+ghost use Rattle.live_session.specs.Serving.{AnswersRequest, request_for, Moves};
 
 use crate::ends::{end_asked, end_carried};
 use live_accounts::{tell_cost, tell_heap};
@@ -57,7 +57,7 @@ pub(crate) fn carry_out(
     limit: Option<u64>,
     command: Command,
 ) -> Result<String, Unanswered>
-    ensures told { IfOk result (λ text. Answers debugger.old limit (Carry command) debugger.new
+    ensures told { IfOk result (λ text. AnswersRequest debugger.old limit (Carry command) debugger.new
         (string_bytes text)) }
     ensures same { IsSameRun debugger.old debugger.new }
     ensures stays { IsErrOf result Unanswered.Unmoved → debugger.new ≡ debugger.old }
@@ -133,7 +133,7 @@ pub(crate) fn tell_failure(
     limit: Option<u64>,
     detail: Detail,
 ) -> Result<String, NoMemory>
-    ensures told { IfOk result (λ text. Answers debugger.old limit (request_for detail)
+    ensures told { IfOk result (λ text. AnswersRequest debugger.old limit (request_for detail)
         debugger.new (string_bytes text)) }
     ensures stays { debugger.new ≡ debugger.old }
 {
@@ -219,8 +219,8 @@ pub(crate) fn tell_name(
     line: &[u8],
 ) -> Result<Vec<u8>, NoMemory>
     ensures told { IfOk result (λ reply. value_reply debugger.old.position
-        (value_at (source_of debugger.old.program) (account_of debugger.old).trail
-        (name_of line.now) debugger.old.position)
+        (variable_value_at (source_of debugger.old.program) (account_of debugger.old).trail
+        (request_name line.now) debugger.old.position)
         ≡ Some (record { position = debugger.new.position; text = reply.items })) }
     ensures stays { debugger.new ≡ debugger.old }
 {

@@ -14,8 +14,8 @@ pub record Held (P : Type 0) : Type 0 where
   pub place : P
   pub limit : Option ℕ
 
-abbrev pub held : {P : Type 0} → (place : P) → (limit : Option ℕ) → Held P
-held place limit = record { place = place; limit = limit }
+abbrev pub held_run : {P : Type 0} → (place : P) → (limit : Option ℕ) → Held P
+held_run place limit = record { place = place; limit = limit }
 
 -- the reply to a line that sets a limit, or to another one
 abbrev pub LimitedBy : {P : Type 0} → (sets : Option ℕ) → ((limit : Option ℕ) → Replier P)

@@ -3,7 +3,7 @@ use Rattle.std.specs.Prelude.{◌≡◌, ◌⊎◌, ℕ, Bool, true, false, List
 use Rattle.std.specs.declared.option.Option.{Option}
 use Rattle.live_port.specs.rpp_ports.declared.sink.SinkFault.{SinkFault}
 use Rattle.live_talks.specs.declared.ends.End.TheVariants.{Memory}
-use Rattle.live_talks.specs.Talks.{Talk, Printed, Puts, status_by}
+use Rattle.live_talks.specs.Talks.{Talk, TalkPrinted, TalkPuts, status_by}
 use Rattle.live_talks.specs.Sessions.{Replier, IsAlone, Replies, Closes}
 
 -- what a reply is, and where it leads
@@ -15,43 +15,43 @@ abbrev pub OrMemory : {P : Type 0} → Reply P → (from : P) → Reply P
 OrMemory R from reply to = R reply to ⊎ IsAlone Memory from reply to
 
 -- a reply was put, and the session goes on
-pub record PutsReply {P : Type 0} (R : Reply P) (quit : Bool) (to : P) (old new : Printed)
+pub record PutsReply {P : Type 0} (R : Reply P) (quit : Bool) (to : P) (old new : TalkPrinted)
     : Type 0 where
   pub reply : List ℕ
   pub is_reply : R reply to
   pub goes_on : quit ≡ false
-  pub puts : Puts reply (Ok tt) old new
+  pub puts : TalkPuts reply (Ok tt) old new
 
 -- or it ends: by `quit`, since a reply was not taken, or since there is no memory for a reply
-pub record PutsLast {P : Type 0} (R : Reply P) (quit : Bool) (from : P) (old new : Printed)
+pub record PutsLast {P : Type 0} (R : Reply P) (quit : Bool) (from : P) (old new : TalkPrinted)
     (status : ℕ) : Type 0 where
   pub reply : List ℕ
   pub is_reply : R reply from
   pub ends : quit ≡ true
-  pub puts : Puts reply (Ok tt) old new
+  pub puts : TalkPuts reply (Ok tt) old new
   pub status_is : status ≡ 0
 
-pub record FailsToPut {P : Type 0} (R : Reply P) (old new : Printed) (status : ℕ)
+pub record FailsToPut {P : Type 0} (R : Reply P) (old new : TalkPrinted) (status : ℕ)
     : Type 0 where
   pub reply : List ℕ
   pub to : P
   pub fault : SinkFault
   pub is_reply : R reply to
-  pub puts : Puts reply (Err fault) old new
+  pub puts : TalkPuts reply (Err fault) old new
   pub status_is : status ≡ status_by 0 (Err fault)
 
-abbrev pub PutsNothing : (N : Type 0) → (old new : Printed) → (status : ℕ) → Type 0
+abbrev pub PutsNothing : (N : Type 0) → (old new : TalkPrinted) → (status : ℕ) → Type 0
 PutsNothing N old new status = N × (new ≡ old) × (status ≡ 7)
 
 -- what was put of a reply as R says, which leads somewhere; N says that it may need memory
 abbrev pub PutsBy : {P : Type 0} → (R : Reply P) → (quit : Bool) → (N : Type 0) → (from to : P)
-    → (old new : Printed) → Option ℕ → Type 0
+    → (old new : TalkPrinted) → Option ℕ → Type 0
 PutsBy R quit N from to old new None = PutsReply R quit to old new
 PutsBy R quit N from to old new (Some status) = PutsLast R quit from old new status
     ⊎ (FailsToPut R old new status ⊎ PutsNothing N old new status)
 
 -- what comes of a line: its reply, and the session goes on, or it ends with a status
-abbrev pub Goes : {P : Type 0} → Replier P → (from to : P) → (talk talk' : Talk) → Option ℕ
+abbrev pub Serves : {P : Type 0} → Replier P → (from to : P) → (talk talk' : Talk) → Option ℕ
     → Type 0
-Goes R from to talk talk' None = Replies R false (Ok tt) from to talk talk'
-Goes R from to talk talk' (Some status) = Closes R from talk talk' status
+Serves R from to talk talk' None = Replies R false (Ok tt) from to talk talk'
+Serves R from to talk talk' (Some status) = Closes R from talk talk' status

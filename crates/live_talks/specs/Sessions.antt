@@ -8,7 +8,7 @@ use Rattle.live_requests.specs.Requests.{request_of, is_quit}
 use Rattle.live_talks.specs.declared.ends.End.{End}
 use Rattle.live_talks.specs.declared.ends.End.TheVariants as end
 use Rattle.live_talks.specs.Ends.{end_line}
-use Rattle.live_talks.specs.Talks.{Talk, Hears, Says, status_by}
+use Rattle.live_talks.specs.Talks.{Talk, Hears, TalkSays, status_by}
 
 -- what the reply to a line is at a position, and where it leads
 abbrev pub Replier : Type 0 → Type 1
@@ -43,7 +43,7 @@ pub record Replies {P : Type 0} (R : Replier P) (quit : Bool)
   pub hears : Hears it before between
   pub quit_is : quits it ≡ quit
   pub is_reply : IsReply R it from reply to
-  pub says : Says reply answer between after
+  pub says : TalkSays reply answer between after
 
 -- so many lines and their replies, one after the other
 abbrev pub Exchanges : {P : Type 0} → Replier P → ℕ → (from to : P)

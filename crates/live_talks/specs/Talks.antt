@@ -6,12 +6,12 @@ use Rattle.live_port.specs.rpp_ports.Ports.{AppendsPrefix}
 use Rattle.live_port.specs.rpp_ports.Events.{Put}
 use Rattle.live_port.specs.rpp_ports.declared.sink.SinkFault.{SinkFault}
 use Rattle.live_port.specs.rpp_ports.declared.sink.SinkFault.TheVariants.{Failed, NoMemory}
-use Rattle.live_port.specs.Heard.{Heard, Tells}
+use Rattle.live_port.specs.Heard.{Heard, TellsHeard}
 use Rattle.live_talks.specs.declared.ends.End.TheVariants.{Bye}
 use Rattle.live_talks.specs.Ends.{end_line}
 
 -- a sink: its bytes, if they are known, and its puts so far, the last first
-pub record Printed : Type 0 where
+pub record TalkPrinted : Type 0 where
   pub bytes : Option (List ℕ)
   pub puts : List Put
 
@@ -20,31 +20,31 @@ pub record Printed : Type 0 where
 pub record Talk : Type 0 where
   pub lines : Option (List (List ℕ))
   pub heard : List Heard
-  pub out : Printed
+  pub out : TalkPrinted
 
 -- a line was asked for, and this was heard
 pub record Hears (it : Heard) (before after : Talk) : Type 0 where
-  pub told : Tells before.lines it after.lines
+  pub told : TellsHeard before.lines it after.lines
   pub noted : after.heard ≡ it ∷ before.heard
   pub silent : after.out ≡ before.out
 
 -- what a put with this answer leaves of the bytes
-abbrev pub PutLeaves : Result (Unit {0}) SinkFault → (text : List ℕ)
+abbrev pub TalkPutLeaves : Result (Unit {0}) SinkFault → (text : List ℕ)
     → (old new : Option (List ℕ)) → Type 0
-PutLeaves (Ok _) text old new = Appends old new text
-PutLeaves (Err Failed) text old new = AppendsPrefix old new text
-PutLeaves (Err NoMemory) text old new = Keeps old new
+TalkPutLeaves (Ok _) text old new = Appends old new text
+TalkPutLeaves (Err Failed) text old new = AppendsPrefix old new text
+TalkPutLeaves (Err NoMemory) text old new = Keeps old new
 
 -- a text was put, once, with this answer
-pub record Puts (text : List ℕ) (answer : Result (Unit {0}) SinkFault) (old new : Printed)
+pub record TalkPuts (text : List ℕ) (answer : Result (Unit {0}) SinkFault) (old new : TalkPrinted)
     : Type 0 where
   pub noted : new.puts ≡ record { bytes = text; answer = answer } ∷ old.puts
-  pub left : PutLeaves answer text old.bytes new.bytes
+  pub left : TalkPutLeaves answer text old.bytes new.bytes
 
 -- the same, and nothing was heard
-pub record Says (text : List ℕ) (answer : Result (Unit {0}) SinkFault) (before after : Talk)
+pub record TalkSays (text : List ℕ) (answer : Result (Unit {0}) SinkFault) (before after : Talk)
     : Type 0 where
-  pub puts : Puts text answer before.out after.out
+  pub puts : TalkPuts text answer before.out after.out
   pub lines : after.lines ≡ before.lines
   pub heard : after.heard ≡ before.heard
 
@@ -60,13 +60,13 @@ over_by (Ok _) = None
 over_by (Err fault) = Some (status_by 0 (Err fault))
 
 -- a text was put; if it was not taken, the session ends with this status
-pub record PutsText (text : List ℕ) (old new : Printed) (over : Option ℕ) : Type 0 where
+pub record PutsText (text : List ℕ) (old new : TalkPrinted) (over : Option ℕ) : Type 0 where
   pub answer : Result (Unit {0}) SinkFault
-  pub puts : Puts text answer old new
+  pub puts : TalkPuts text answer old new
   pub over_is : over ≡ over_by answer
 
 -- the last reply was put, and the session ends with this status
-pub record PutsBye (old new : Printed) (status : ℕ) : Type 0 where
+pub record PutsBye (old new : TalkPrinted) (status : ℕ) : Type 0 where
   pub answer : Result (Unit {0}) SinkFault
-  pub puts : Puts (end_line Bye) answer old new
+  pub puts : TalkPuts (end_line Bye) answer old new
   pub status_is : status ≡ status_by 0 answer

@@ -1,7 +1,7 @@
 // Texts that are put, and the status by what the sink answered.
 ghost use Rattle.std.specs.Prelude.{◌≡◌};
 ghost use Rattle.live_talks.specs.Ends.{end_line as line_of_end};
-ghost use Rattle.live_talks.specs.Talks.{Puts, PutsText, PutsBye, status_by as status_by_answer, over_by as over_by_answer};
+ghost use Rattle.live_talks.specs.Talks.{TalkPuts, PutsText, PutsBye, status_by as status_by_answer, over_by as over_by_answer};
 
 use crate::ends::{End, end_line};
 use rpp_ports::{Sink, SinkFault};
@@ -12,7 +12,7 @@ const NO_MEMORY: u8 = 7;
 
 // Puts bytes, once.
 fn put<K: Sink>(out: &mut K, bytes: &[u8]) -> Result<(), SinkFault>
-    ensures { Puts bytes.now result
+    ensures { TalkPuts bytes.now result
         (record { bytes = K.written out.old; puts = K.puts out.old })
         (record { bytes = K.written out.new; puts = K.puts out.new }) }
 {
@@ -25,7 +25,7 @@ fn put<K: Sink>(out: &mut K, bytes: &[u8]) -> Result<(), SinkFault>
 
 /// Puts a text, once.
 pub fn say<K: Sink>(out: &mut K, text: &str) -> Result<(), SinkFault>
-    ensures { Puts text.now result
+    ensures { TalkPuts text.now result
         (record { bytes = K.written out.old; puts = K.puts out.old })
         (record { bytes = K.written out.new; puts = K.puts out.new }) }
 {

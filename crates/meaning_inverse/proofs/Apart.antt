@@ -10,7 +10,7 @@ use Rattle.meaning_reached.specs.class_rules.declared.kind.Kind.TheVariants as k
 use Rattle.meaning_reached.specs.class_rules.Table.{table_of}
 use Rattle.meaning_reached.specs.class_rules.Scope.{Typing, Locals, kind_in}
 use Rattle.meaning_reached.specs.class_rules.Refusal.{unknown_name, not_an_array}
-use Rattle.meaning_reached.specs.class_rules.Expressions.{element_kind, element_of as element_type, index_is_int, variable_type}
+use Rattle.meaning_reached.specs.class_rules.Expressions.{element_kind, element_kind_of as element_type, index_is_int, variable_type}
 use Rattle.meaning_reached.specs.class_rules.Expressions.{type_of, place_type, first_token}
 use Rattle.meaning_reached.specs.rpp_tree.Places.{place_name}
 use Rattle.meaning_reached.specs.class_rules.Program.{setting_in}
@@ -19,7 +19,7 @@ use Rattle.meaning_reached.specs.roopl_semantics.Store.{number_of, same_value, o
 use Rattle.meaning_reached.specs.roopl_semantics.Value.{Cell, Slot, Part, cell_named, own_class, variable_value, element_cell}
 use Rattle.meaning_reached.specs.roopl_semantics.Value.{element_of, read, written, value as value_in, cell_of, INDEX}
 use Rattle.meaning_reached.specs.roopl_semantics.Execution.{Setting, same_cell}
-use Rattle.meaning_reached.specs.meaning_sound.Sound.{fits, named_fits, head_fits, head_of, head_named, cell_kind}
+use Rattle.meaning_reached.specs.meaning_sound.Sound.{is_of_kind, named_fits, head_fits, head_of, head_named, cell_kind}
 use Rattle.meaning_reached.specs.meaning_sound.Sound.{Typed}
 use Rattle.meaning_reached.proofs.meaning_sound_laws.Cells.{read_fits, heads_written}
 use Rattle.meaning_reached.proofs.meaning_sound_laws.Classes.{KnowsClasses}
@@ -177,7 +177,7 @@ pub record ArrayNamed (store : Store) (n : ℕ) : Type 0 where
   pub is_array : is_class_head object.head ≡ false
 
 array_named : (program : Source) (store : Store) (k element : Kind) (n : ℕ) → element_kind k ≡ Some element
-    → fits program store (Name n) k ≡ true → ArrayNamed store n
+    → is_of_kind program store (Name n) k ≡ true → ArrayNamed store n
 array_named program store k element n e h = by (object_named store n) refl h
   where
     by : (o : Option Object) → object_named store n ≡ o → named_fits program k (option_map head_of o) ≡ true
@@ -227,7 +227,7 @@ module _ (setting : Setting) (classes : KnowsClasses setting.program) (C : Conte
       → kind_in typing C.locals name ≡ Some k → element_kind k ≡ Some element → variable_value program st name ≡ Name n
       → ArrayNamed st.store n
   array_of st name k element n t known is e =
-      let P : Value → Type 0 = λ v. fits program st.store v k ≡ true in
+      let P : Value → Type 0 = λ v. is_of_kind program st.store v k ≡ true in
       array_named program st.store k element n is (subst P e
       (read_fits setting C.extra C.shape C.class st (cell_named program st name) k t
       (cell_kind_of st name k t known)))

@@ -29,7 +29,7 @@ use Rattle.meaning_reached.proofs.roopl_semantics_laws.MoreFuel.{within_done}
 use Rattle.meaning_reached.proofs.meaning_sound_laws.Accepted.{knows_classes}
 use Rattle.meaning_reached.proofs.meaning_sound_laws.Plainness.{program_plain}
 use Rattle.meaning_reached.proofs.meaning_sound_laws.Stated.{counts_are_held}
-use Rattle.meaning_reached.specs.Ending.{IsReached}
+use Rattle.meaning_reached.specs.Ending.{IsStoreReached}
 use Rattle.meaning_reached.proofs.Final.{ends_reached}
 use Rattle.meaning_reached.proofs.SameReports.{same_reports}
 use Rattle.meaning_inverse.specs.InversePrograms.{MainLeadsBack, BeginsAnew, RunsBack}
@@ -187,7 +187,7 @@ module _ (program : Source) (limits : Limits) (input final : List FieldWord) (ac
   known : EndOfRun program limits input end
   known = end_of_run program limits input accepted inside valid fuel end cost done
 
-  reached : IsReached program end.store
+  reached : IsStoreReached program end.store
   reached = ends_reached program limits input fuel end cost accepted inside valid done
 
   none_numbered : numbered end.store ≡ []

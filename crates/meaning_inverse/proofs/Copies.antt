@@ -9,7 +9,7 @@ use Rattle.meaning_reached.specs.roopl_semantics.Store.{Value, Word, Nil, Name, 
 use Rattle.meaning_reached.specs.roopl_semantics.Store.{object_named, no_object, changed_at}
 use Rattle.meaning_reached.specs.roopl_semantics.Value.{Cell, Slot, Part, read, written, cell_of, found, NIL}
 use Rattle.meaning_reached.specs.roopl_semantics.Elements.{index_elements, own_element, share_array, read_cost, kept_apart}
-use Rattle.meaning_reached.specs.roopl_semantics.Execution.{Setting, statement, exec, same_cell, counted, one_less, NOT_NIL}
+use Rattle.meaning_reached.specs.roopl_semantics.Execution.{Setting, statement, exec, same_cell, count_changed, one_less, NOT_NIL}
 use Rattle.meaning_reached.specs.roopl_semantics.Execution.{NOT_SAME}
 use Rattle.meaning_reached.specs.roopl_semantics.Agreement.{renamed}
 use Rattle.meaning_inverse.proofs.Runs.{in_parts, done_then, done_result, done_cost, given_done, apart_done, done_apart}
@@ -24,12 +24,12 @@ use Rattle.meaning_reached.proofs.roopl_semantics_laws.Changed.{with_count, with
 
 -- counts and cells change apart
 written_counted : (change : ℕ → ℕ) (st : State) (n : ℕ) (c : Cell) (v : Value)
-    → written (counted change st n) c v ≡ counted change (written st c v) n
+    → written (count_changed change st n) c v ≡ count_changed change (written st c v) n
 written_counted change st n (Slot i) v = refl
 written_counted change st n (Part k i) v = by (nat_eq n k) refl
   where
-    by : (t : Bool) → nat_eq n k ≡ t → written (counted change st n) (Part k i) v
-        ≡ counted change (written st (Part k i) v) n
+    by : (t : Bool) → nat_eq n k ≡ t → written (count_changed change st n) (Part k i) v
+        ≡ count_changed change (written st (Part k i) v) n
     by false e = ap (λ s. record st { store = s }) (changed_apart st.store n k (with_count change) (with_cell i v) e)
     by true e =
         let P : ℕ → Type 0 = λ m. changed_at (changed_at st.store n (with_count change)) m (with_cell i v)
@@ -39,13 +39,13 @@ written_counted change st n (Part k i) v = by (nat_eq n k) refl
         ∙ sym (changed_changed st.store n (with_cell i v) (with_count change))))
 
 counted_twice : (f g : ℕ → ℕ) (st : State) (n : ℕ) → ((o : Object) → object_named st.store n ≡ Some o
-    → g (f o.count) ≡ o.count) → counted g (counted f st n) n ≡ st
+    → g (f o.count) ≡ o.count) → count_changed g (count_changed f st n) n ≡ st
 counted_twice f g st n h =
     ap (λ s. record st { store = s }) (changed_changed st.store n (with_count f) (with_count g)
     ∙ changed_none st.store n (λ o. with_count g (with_count f o))
     (λ o e. ap (λ k. record o { count = k }) (h o e)))
 
-pub read_counted : (change : ℕ → ℕ) (st : State) (n : ℕ) (c : Cell) → read (counted change st n) c ≡ read st c
+pub read_counted : (change : ℕ → ℕ) (st : State) (n : ℕ) (c : Cell) → read (count_changed change st n) c ≡ read st c
 read_counted change st n (Slot i) = refl
 read_counted change st n (Part k i) = ap (λ o. unwrap_or (slice_get (unwrap_or o no_object).cells i) Nil)
     (named_changed st.store n (with_count change) k) ∙ by (nat_eq n k) (object_named st.store k)
@@ -106,8 +106,8 @@ module _ (setting : Setting) (G : Ground setting) where
       let x' = cell_for f x in
       let y' = cell_for f y in
       let apart = differ a x y some none in
-      let first : b ≡ counted suc (written a y (Name n)) n = sym is
-      ∙ ap (λ v. counted suc (written a y v) (number_of v)) facts.is_name in
+      let first : b ≡ count_changed suc (written a y (Name n)) n = sym is
+      ∙ ap (λ v. count_changed suc (written a y v) (number_of v)) facts.is_name in
       let reads_x : read b x ≡ Name n = ap (λ s. read s x) first ∙ read_counted suc (written a y (Name n)) n x
       ∙ read_apart a y x (Name n) (turned x y apart) ∙ facts.is_name in
       let reads_y : read b y ≡ Name n = ap (λ s. read s y) first ∙ read_counted suc (written a y (Name n)) n y
@@ -118,11 +118,11 @@ module _ (setting : Setting) (G : Ground setting) where
       let Q : State → Type 0 = λ s. cell_of setting.program s target ≡ Ok y in
       let sources = found_seen h f b b' sees setting.program source x clean.0 (subst P is facts.source_stays) in
       let targets = found_seen h f b b' sees setting.program target y clean.1 (subst Q is facts.target_stays) in
-      let back = counted one_less (written b' y' Nil) (f.there n) in
-      let same : counted one_less (written b y Nil) n ≡ a =
-      ap (λ s. counted one_less (written s y Nil) n) first
-      ∙ ap (λ s. counted one_less s n) (written_counted suc (written a y (Name n)) n y Nil)
-      ∙ ap (λ s. counted one_less (counted suc s n) n) (written_twice a y (Name n) Nil
+      let back = count_changed one_less (written b' y' Nil) (f.there n) in
+      let same : count_changed one_less (written b y Nil) n ≡ a =
+      ap (λ s. count_changed one_less (written s y Nil) n) first
+      ∙ ap (λ s. count_changed one_less s n) (written_counted suc (written a y (Name n)) n y Nil)
+      ∙ ap (λ s. count_changed one_less (count_changed suc s n) n) (written_twice a y (Name n) Nil
       ∙ ap (written a y) (sym (is_nil_value (read a y) none)) ∙ written_same a y)
       ∙ counted_twice suc one_less a n (λ o e. suc_less o.count) in
       let R : State → Type 0 = λ s. Sees h f s back in
@@ -132,7 +132,7 @@ module _ (setting : Setting) (G : Ground setting) where
       let unshared = done_apart setting.program (own_element target) (index_elements source ++ index_elements target) b'
       (share_seen h f b b' sees setting.program (own_element target)
       (index_elements source ++ index_elements target) ∙ subst S is facts.apart_stays) in
-      let result : uncopied b' x' y' ≡ back = ap (λ v. counted one_less (written b' y' Nil) (number_of v)) reads_x' in
+      let result : uncopied b' x' y' ≡ back = ap (λ v. count_changed one_less (written b' y' Nil) (number_of v)) reads_x' in
       let check : not (same_value (read b' x') (read b' y')) || same_cell x' y' ≡ false =
       both_hold (same_value (read b' x') (read b' y')) (same_cell x' y')
       (ap (λ v. same_value v (read b' y')) reads_x' ∙ ap (λ v. same_value (Name (f.there n)) v) reads_y'
@@ -161,9 +161,9 @@ module _ (setting : Setting) (G : Ground setting) where
           same = λ name o p k l. refl;
         };
         exact = λ here alike.
-            ap (λ (s : State). counted one_less (written s y' Nil) (f.there n)) here
-            ∙ ap (λ (d : Cell). counted one_less (written b d Nil) (f.there n)) (cell_alike f y alike)
-            ∙ ap (λ (k : ℕ). counted one_less (written b y Nil) k) (alike n) ∙ same;
+            ap (λ (s : State). count_changed one_less (written s y' Nil) (f.there n)) here
+            ∙ ap (λ (d : Cell). count_changed one_less (written b d Nil) (f.there n)) (cell_alike f y alike)
+            ∙ ap (λ (k : ℕ). count_changed one_less (written b y Nil) k) (alike n) ∙ same;
       }
 
   pub copy_exactly : (n : ℕ) (C : G.Context) (at : ℕ) (kind : VarType) (source target : Lvalue) (a b : State) (c : ℕ)
@@ -219,8 +219,8 @@ module _ (setting : Setting) (G : Ground setting) where
       let n = facts.name in
       let x' = cell_for f x in
       let y' = cell_for f y in
-      let first : b ≡ counted one_less (written a y Nil) n = sym is
-      ∙ ap (λ v. counted one_less (written a y Nil) (number_of v)) facts.is_name in
+      let first : b ≡ count_changed one_less (written a y Nil) n = sym is
+      ∙ ap (λ v. count_changed one_less (written a y Nil) (number_of v)) facts.is_name in
       let reads_x : read b x ≡ Name n = ap (λ s. read s x) first ∙ read_counted one_less (written a y Nil) n x
       ∙ read_apart a y x Nil (turned x y apart) ∙ facts.is_name in
       let reads_y : read b y ≡ Nil = ap (λ s. read s y) first ∙ read_counted one_less (written a y Nil) n y
@@ -231,12 +231,12 @@ module _ (setting : Setting) (G : Ground setting) where
       let Q : State → Type 0 = λ s. cell_of setting.program s target ≡ Ok y in
       let sources = found_seen h f b b' sees setting.program source x clean.0 (subst P is facts.source_stays) in
       let targets = found_seen h f b b' sees setting.program target y clean.1 (subst Q is facts.target_stays) in
-      let back = counted suc (written b' y' (Name (f.there n))) (f.there n) in
+      let back = count_changed suc (written b' y' (Name (f.there n))) (f.there n) in
       let holds_y : read a y ≡ Name n = sym alike ∙ facts.is_name in
-      let same : counted suc (written b y (Name n)) n ≡ a =
-      ap (λ s. counted suc (written s y (Name n)) n) first
-      ∙ ap (λ s. counted suc s n) (written_counted one_less (written a y Nil) n y (Name n))
-      ∙ ap (λ s. counted suc (counted one_less s n) n) (written_twice a y Nil (Name n) ∙ ap (written a y) (sym holds_y)
+      let same : count_changed suc (written b y (Name n)) n ≡ a =
+      ap (λ s. count_changed suc (written s y (Name n)) n) first
+      ∙ ap (λ s. count_changed suc s n) (written_counted one_less (written a y Nil) n y (Name n))
+      ∙ ap (λ s. count_changed suc (count_changed one_less s n) n) (written_twice a y Nil (Name n) ∙ ap (written a y) (sym holds_y)
       ∙ written_same a y)
       ∙ counted_twice one_less suc a n (λ o e. (let some = G.counts C a good x n o facts.is_name e in
       positive o.count some)) in
@@ -247,7 +247,7 @@ module _ (setting : Setting) (G : Ground setting) where
       let unshared = done_apart setting.program (own_element target) (index_elements source ++ index_elements target) b'
       (share_seen h f b b' sees setting.program (own_element target)
       (index_elements source ++ index_elements target) ∙ subst S is facts.apart_stays) in
-      let result : copied b' x' y' ≡ back = ap (λ v. counted suc (written b' y' v) (number_of v)) reads_x' in
+      let result : copied b' x' y' ≡ back = ap (λ v. count_changed suc (written b' y' v) (number_of v)) reads_x' in
       record {
         undone = record {
           back = back;
@@ -271,9 +271,9 @@ module _ (setting : Setting) (G : Ground setting) where
           same = λ name o p k l. refl;
         };
         exact = λ here alike.
-            ap (λ (s : State). counted suc (written s y' (Name (f.there n))) (f.there n)) here
-            ∙ ap (λ (d : Cell). counted suc (written b d (Name (f.there n))) (f.there n)) (cell_alike f y alike)
-            ∙ ap (λ (k : ℕ). counted suc (written b y (Name k)) k) (alike n) ∙ same;
+            ap (λ (s : State). count_changed suc (written s y' (Name (f.there n))) (f.there n)) here
+            ∙ ap (λ (d : Cell). count_changed suc (written b d (Name (f.there n))) (f.there n)) (cell_alike f y alike)
+            ∙ ap (λ (k : ℕ). count_changed suc (written b y (Name k)) k) (alike n) ∙ same;
       }
     where
       positive : (k : ℕ) → 0 < k → suc (one_less k) ≡ k

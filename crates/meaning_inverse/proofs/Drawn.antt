@@ -2,7 +2,7 @@
 use Rattle.std.proofs.Common.{◌≡◌, ◌≢◌, ℕ, suc, ◌+◌, ◌<◌, ◌≤◌, refl, sym, ap, subst, ◌∙◌, arith, true, false, Bool}
 use Rattle.std.proofs.Common.{List, [], ◌∷◌, map, Some, None, Option, option_map, nat_eq, is_none, eqb-true, eq-eqb}
 use Rattle.std.proofs.Common.{ne_eqb, if◌then◌else◌, slice_get}
-use Rattle.meaning_reached.specs.buddy_book.Book.{Book, take, give}
+use Rattle.meaning_reached.specs.buddy_book.Book.{Book, take, give_back}
 use Rattle.meaning_reached.specs.buddy_book.Place.{Log, Taken, Given, count_taken, Placing, block_of, with_block, after_request, place}
 use Rattle.meaning_reached.specs.roopl_semantics.Store.{Value, Word, Nil, Name, Head, Object, State, main_name, object_named, without}
 use Rattle.meaning_reached.specs.roopl_semantics.Value.{Cell, Slot, Part, read, written}
@@ -182,7 +182,7 @@ module _ (h : ℕ) (f : Names) (a b' : State) (cell : Cell) (n : ℕ) (object : 
     (holds : read a cell ≡ Name n) (aside : IsApart n cell) (not_main : n ≢ main_name)
     (live : AreLive (gone a cell n (order_of_cells size)))
     (at : Placing) (placed : place h a.log ≡ Some at) (takes : take
-    (give at.book (order_of_cells size) (block_of at.blocks n)) (order_of_cells size)
+    (give_back at.book (order_of_cells size) (block_of at.blocks n)) (order_of_cells size)
     ≡ Some (block_of at.blocks n, at.book))
     (sees : Sees h f (gone a cell n (order_of_cells size)) b') where
   abbrev b : State
@@ -218,7 +218,7 @@ module _ (h : ℕ) (f : Names) (a b' : State) (cell : Cell) (n : ℕ) (object : 
 
   again : Retaken h b'.log drawn (order_of_cells size) (block_of at.blocks n) at.book
   again = retaken h b'.log drawn (order_of_cells size) (block_of at.blocks n)
-      (give at.book (order_of_cells size) (block_of at.blocks n)) at.book
+      (give_back at.book (order_of_cells size) (block_of at.blocks n)) at.book
       (sees.book ∙ ap (λ l. book_of (place h l)) (gone_log a cell n (order_of_cells size))
       ∙ ap (λ p. book_of (after_request (Given n (order_of_cells size)) p)) placed) takes
 

@@ -11,7 +11,7 @@ use Rattle.meaning_reached.specs.class_rules.declared.kind.Kind.{Kind}
 use Rattle.meaning_reached.specs.class_rules.declared.kind.Kind.TheVariants as kind
 use Rattle.meaning_reached.specs.class_rules.Table.{table_of}
 use Rattle.meaning_reached.specs.class_rules.Classes.{class_number, class_fields, method_named}
-use Rattle.meaning_reached.specs.class_rules.Statements.{passed, in_turn, test_rules, check_statement, check_statements}
+use Rattle.meaning_reached.specs.class_rules.Statements.{verdict_passed, in_turn, test_rules, check_statement, check_statements}
 use Rattle.meaning_reached.specs.class_rules.Program.{setting_in}
 use Rattle.meaning_reached.specs.buddy_book.Place.{Taken, count_taken, place}
 use Rattle.meaning_reached.specs.roopl_semantics.Operators.{updated}
@@ -23,7 +23,7 @@ use Rattle.meaning_reached.specs.roopl_semantics.Value.{Cell, Slot, Part, read, 
 use Rattle.meaning_reached.specs.roopl_semantics.Value.{cell_named, NIL}
 use Rattle.meaning_reached.specs.roopl_semantics.Elements.{elements, index_elements, own_element, kept_apart}
 use Rattle.meaning_reached.specs.roopl_semantics.Execution.{Setting, Runner, holds, opened, closed, moved_out, moved_back, in_direction}
-use Rattle.meaning_reached.specs.roopl_semantics.Execution.{new_object, order_of_cells, counted, one_less, constructed, element_call}
+use Rattle.meaning_reached.specs.roopl_semantics.Execution.{new_object, order_of_cells, count_changed, one_less, constructed, element_call}
 use Rattle.meaning_reached.specs.roopl_semantics.Execution.{cells_named, class_of, is_too_deep, invoked, allocated, freed, new_array}
 use Rattle.meaning_reached.specs.roopl_semantics.Execution.{delete_array, with_local, turn_end, turns, statement, exec, same_cell}
 use Rattle.meaning_reached.specs.roopl_semantics.Execution.{is_of_class, all_zero, FI, LOOP, NOT_NIL, COUNT}
@@ -67,9 +67,9 @@ elements_written st (Part n i) v f =
     (λ o e h. ap (λ k. is_less k 1) (length-set o.cells i v) ∙ elements_each st.store f n o e h))
 
 elements_counted : (change : ℕ → ℕ) (st : State) (n : ℕ) → ArraysHaveElements st.store
-    → ArraysHaveElements (counted change st n).store
+    → ArraysHaveElements (count_changed change st n).store
 elements_counted change st n f =
-    elements_all (counted change st n).store (changed_objects (λ o. HasElements o) st.store n
+    elements_all (count_changed change st n).store (changed_objects (λ o. HasElements o) st.store n
     (λ o. record o { count = change o.count }) (elements_each st.store f)
     (λ o e h. elements_each st.store f n o e h))
 
@@ -302,7 +302,7 @@ module _ (setting : Setting) (classes : KnowsClasses setting.program) (run : Run
       (index_elements source ++ index_elements target) st) _ _
       (λ z. ends_then (fault_if NIL (is_nil (read st a))) _ _
       (λ u. ends_then (fault_if NOT_NIL (not (is_nil (read st b)))) _ _ (λ w.
-      ends_done (counted suc (written st b (read st a)) (number_of (read st a))) 0 EndsWithElements
+      ends_done (count_changed suc (written st b (read st a)) (number_of (read st a))) 0 EndsWithElements
       (elements_counted suc (written st b (read st a)) (number_of (read st a))
       (elements_written st b (read st a) g.arrays)))))))
   elements_statement C n (Uncopy at kind source target) st h g =
@@ -311,7 +311,7 @@ module _ (setting : Setting) (classes : KnowsClasses setting.program) (run : Run
       (index_elements source ++ index_elements target) st) _ _
       (λ z. ends_then (fault_if NIL (is_nil (read st a))) _ _ (λ u.
       ends_then (fault_if NOT_SAME (not (same_value (read st a) (read st b)) || same_cell a b)) _ _ (λ w.
-      ends_done (counted one_less (written st b Nil) (number_of (read st a))) 0 EndsWithElements
+      ends_done (count_changed one_less (written st b Nil) (number_of (read st a))) 0 EndsWithElements
       (elements_counted one_less (written st b Nil) (number_of (read st a))
       (elements_written st b Nil g.arrays)))))))
   elements_statement C n (Call at back None method args) st h g =
@@ -358,7 +358,7 @@ pub first_checked : (setting : Setting) (C : Context setting) (first : Statement
 first_checked setting C first rest h =
     let typing = setting_in setting.program (table_of setting.program) C.class in
     let both = both_passed (check_statement typing C.locals first) (check_statements typing C.locals rest) h.passes in
-    record { passes = ap (λ v. in_turn v passed) both.0; plain = (h.plain.0, tt) }
+    record { passes = ap (λ v. in_turn v verdict_passed) both.0; plain = (h.plain.0, tt) }
 
 pub rest_checked : (setting : Setting) (C : Context setting) (first : Statement) (rest : Statements)
     → Checked setting C (Then first rest) → Checked setting C rest

@@ -13,8 +13,8 @@ use Rattle.meaning_reached.specs.class_rules.Overrides.{same_type, parameters_of
 use Rattle.meaning_reached.specs.class_rules.Classes.{method_named}
 use Rattle.meaning_reached.specs.class_rules.Refusal.{type_differs, redeclared, self_update, local_in_own_expression, unknown_name}
 use Rattle.meaning_reached.specs.class_rules.Scope.{Typing, Local as ALocal, Locals, kind_of, class_kind, kind_in}
-use Rattle.meaning_reached.specs.class_rules.Expressions.{and_then, type_of, place_type, occurs}
-use Rattle.meaning_reached.specs.class_rules.Statements.{passed, Verdict, required, in_turn, type_known, class_known, same_kind}
+use Rattle.meaning_reached.specs.class_rules.Expressions.{then_checked, type_of, place_type, occurs}
+use Rattle.meaning_reached.specs.class_rules.Statements.{verdict_passed, Verdict, required, in_turn, type_known, class_known, same_kind}
 use Rattle.meaning_reached.specs.class_rules.Statements.{in_either_index, swap_rules, call_rules, receiver_class, receiver_kind}
 use Rattle.meaning_reached.specs.class_rules.Statements.{place_class, slot_rules, local_rules, construct_rules, with_local, with_object}
 use Rattle.meaning_reached.specs.class_rules.Statements.{check_statement, check_statements}
@@ -23,7 +23,7 @@ use Rattle.meaning_reached.specs.roopl_semantics.Store.{Value, Nil, Name, State,
 use Rattle.meaning_reached.specs.roopl_semantics.Value.{Cell, cell_named, own_class, read, value as value_in}
 use Rattle.meaning_reached.specs.roopl_semantics.Execution.{Setting, opened, constructed, element_call, element_name, cells_named}
 use Rattle.meaning_reached.specs.roopl_semantics.Execution.{class_of, in_direction, exec}
-use Rattle.meaning_reached.specs.meaning_sound.Sound.{Sound, fits}
+use Rattle.meaning_reached.specs.meaning_sound.Sound.{Sound, is_of_kind}
 use Rattle.meaning_reached.specs.meaning_sound.Plain.{IsPlain}
 use Rattle.meaning_reached.proofs.meaning_sound_laws.Cells.{typed_of, read_fits}
 use Rattle.meaning_reached.proofs.meaning_sound_laws.Classes.{KnowsClasses}
@@ -73,7 +73,7 @@ module _ (setting : Setting) (classes : KnowsClasses setting.program) (C : Conte
 
   local_in : (st : State) (name : List ℕ) (k : Kind) (value : Expression) (body : Statements) (v : Value)
       → IsLocalEnd typing C.locals name k value → check_statements typing (record { name = name; kind = k } ∷ C.locals)
-      body ≡ passed → IsPlain body
+      body ≡ verdict_passed → IsPlain body
       → Sound setting C.extra C.shape C.class st → value_in program st value ≡ Ok v
       → Entry setting body (opened name v st)
   unfolding under
@@ -151,7 +151,7 @@ module _ (setting : Setting) (classes : KnowsClasses setting.program) (C : Conte
       (nil_end at (no_int_class (class_in typing.table of_class.text)))
       (in_turn_passes (check_statement typing inner first) (check_statements typing inner (joined body last)) made
       (check_joined typing inner body last rules.1 (in_turn_passes
-      (check_statement typing inner (Delete at (AnObject of_class) (Whole name))) passed made refl)))
+      (check_statement typing inner (Delete at (AnObject of_class) (Whole name))) verdict_passed made refl)))
       ((tt, tt), plain_joined body last checked.plain.0 ((tt, tt), tt)) s refl
 
   pub element_entry : (at : ℕ) (back : Bool) (name : Ident) (index : Expression) (method : Ident) (args : List Ident)
@@ -182,20 +182,20 @@ module _ (setting : Setting) (classes : KnowsClasses setting.program) (C : Conte
       let swap_rest : Kind → Kind → Verdict = λ a b. in_turn (required (same_kind a b) (type_differs at))
       (required (not (in_either_index [] (Whole e) (Item name index) || in_either_index name.text (Whole e)
       (Item name index))) (self_update at)) in
-      let swapped : swap_rules typing inner at (Whole e) (Item name index) ≡ passed =
-      hands_on (place_type typing inner (Whole e)) (λ a. and_then (place_type typing inner (Item name index))
-      (λ b. swap_rest a b)) k passed receiver (hands_on (place_type typing inner (Item name index))
-      (λ b. swap_rest k b) k passed element
+      let swapped : swap_rules typing inner at (Whole e) (Item name index) ≡ verdict_passed =
+      hands_on (place_type typing inner (Whole e)) (λ a. then_checked (place_type typing inner (Item name index))
+      (λ b. swap_rest a b)) k verdict_passed receiver (hands_on (place_type typing inner (Item name index))
+      (λ b. swap_rest k b) k verdict_passed element
       (in_turn_passes (required (same_kind k k) (type_differs at)) _
       (required_passes _ (type_differs at) (same_as_itself k))
       (required_passes _ (self_update at) (ap (λ b. not (b || occurs name.text index))
       (not_in setting classes run keeps C.extra C.locals C.shape C.class C.inside C.means index indexes)
       ∙ ap not r.apart)))) in
-      let called : call_rules typing inner at (Some (Whole e)) method args ≡ passed =
+      let called : call_rules typing inner at (Some (Whole e)) method args ≡ verdict_passed =
       hands_on (receiver_class typing inner (Some (Whole e)))
       (λ c. slot_rules typing inner at (Some (Whole e)) method args c (slot_in typing.table c method.text)) r.static
-      passed
-      (hands_on (place_type typing inner (Whole e)) (λ x. and_then (receiver_kind at x) (place_class at (Whole e))) k
+      verdict_passed
+      (hands_on (place_type typing inner (Whole e)) (λ x. then_checked (receiver_kind at x) (place_class at (Whole e))) k
       (Ok r.static) receiver refl)
       (slots_under setting classes run keeps C.extra C.locals C.shape C.class C.inside C.means at k name index method
       args r.static all (slot_in typing.table r.static method.text) r.rules) in
@@ -203,7 +203,7 @@ module _ (setting : Setting) (classes : KnowsClasses setting.program) (C : Conte
       (in_turn_passes (check_statement typing inner exchange)
       (check_statements typing inner (Then call (Then exchange End))) swapped
       (in_turn_passes (check_statement typing inner call) (check_statements typing inner (Then exchange End)) called
-      (in_turn_passes (check_statement typing inner exchange) passed swapped refl)))
+      (in_turn_passes (check_statement typing inner exchange) verdict_passed swapped refl)))
       ((tt, words), (tt, ((tt, words), tt))) s refl
 
   -- ---- calls
@@ -288,7 +288,7 @@ module _ (setting : Setting) (classes : KnowsClasses setting.program) (C : Conte
       let mean = all_mean setting classes run keeps C.extra C.locals C.shape C.class C.inside C.means false at args st t
       p.known in
       let nm = reference program st.store (read st cell) (kind.Class r.static) fit refl some in
-      let P : Value → Type 0 = λ v. fits program st.store v (kind.Class r.static) ≡ true in
+      let P : Value → Type 0 = λ v. is_of_kind program st.store v (kind.Class r.static) ≡ true in
       let object = is_object program r.static st.store nm.name (subst P nm.is fit) in
       record {
         self = nm.name;

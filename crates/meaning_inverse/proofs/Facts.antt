@@ -14,14 +14,14 @@ use Rattle.meaning_reached.specs.class_rules.Refusal.{type_differs, self_update,
 use Rattle.meaning_reached.specs.class_rules.Scope.{Typing, Locals, kind_in}
 use Rattle.meaning_reached.specs.class_rules.Expressions.{is_int, element_kind, type_of, place_type, occurs, occurs_in_index}
 use Rattle.meaning_reached.specs.rpp_tree.Places.{place_name}
-use Rattle.meaning_reached.specs.class_rules.Statements.{passed, required, same_kind, same_plain, occurs_in_own_index, in_either_index}
+use Rattle.meaning_reached.specs.class_rules.Statements.{verdict_passed, required, same_kind, same_plain, occurs_in_own_index, in_either_index}
 use Rattle.meaning_reached.specs.class_rules.Statements.{copy_rules, written_kind, type_known, takes_copy, check_statement}
 use Rattle.meaning_reached.specs.class_rules.Program.{setting_in}
 use Rattle.meaning_reached.specs.roopl_semantics.Store.{Value, Word, Nil, Name, Object, State, number_of, is_nil, object_named}
 use Rattle.meaning_reached.specs.roopl_semantics.Store.{no_object}
 use Rattle.meaning_reached.specs.roopl_semantics.Value.{Cell, cell_named, variable_value, read, written, value as value_in, cell_of}
 use Rattle.meaning_reached.specs.roopl_semantics.Elements.{elements, index_elements, own_element, share_array}
-use Rattle.meaning_reached.specs.roopl_semantics.Execution.{Setting, same_cell, counted, one_less}
+use Rattle.meaning_reached.specs.roopl_semantics.Execution.{Setting, same_cell, count_changed, one_less}
 use Rattle.meaning_reached.specs.meaning_sound.Sound.{cell_kind, Typed}
 use Rattle.meaning_reached.proofs.meaning_sound_laws.Cells.{read_fits, changed_told}
 use Rattle.meaning_reached.proofs.meaning_sound_laws.Classes.{KnowsClasses}
@@ -59,9 +59,9 @@ no_own_element kind.IntArray e = cc
 no_own_element (kind.ClassArray c) e = cc
 
 pub first_rule : (setting : Setting) (C : Context setting) (s : Statement) → Checked setting C (Then s End)
-    → check_statement (setting_in setting.program (table_of setting.program) C.class) C.locals s ≡ passed
+    → check_statement (setting_in setting.program (table_of setting.program) C.class) C.locals s ≡ verdict_passed
 first_rule setting C s h = (both_passed (check_statement (setting_in setting.program (table_of setting.program) C.class)
-    C.locals s) passed h.passes).0
+    C.locals s) verdict_passed h.passes).0
 
 -- the variable of an element, and the length of its array
 abbrev pub VariableSame : Source → State → State → Lvalue → Type 0
@@ -72,14 +72,14 @@ VariableSame program st end (Item name index) = (variable_value program end name
 -- ---- a change of a count changes no reading
 
 pub named_counted : (setting : Setting) (change : ℕ → ℕ) (st : State) (n : ℕ) (name : List ℕ)
-    → cell_named setting.program (counted change st n) name ≡ cell_named setting.program st name
+    → cell_named setting.program (count_changed change st n) name ≡ cell_named setting.program st name
 named_counted setting change st n name =
-    cells_later setting st (counted change st n) refl refl
-    (class_at_head (counted change st n).store st.self ∙ ap head_class
+    cells_later setting st (count_changed change st n) refl refl
+    (class_at_head (count_changed change st n).store st.self ∙ ap head_class
     (changed_told st.store n (with_count change) (λ o. o.head) (λ o. refl) st.self)
     ∙ sym (class_at_head st.store st.self)) name
 
-array_counted : (change : ℕ → ℕ) (st : State) (n : ℕ) (v : Value) → SameArray st (counted change st n) v
+array_counted : (change : ℕ → ℕ) (st : State) (n : ℕ) (v : Value) → SameArray st (count_changed change st n) v
 array_counted change st n (Word w) = tt
 array_counted change st n Nil = tt
 array_counted change st n (Name b) = ap (λ o. (unwrap_or o no_object).cells)
@@ -103,10 +103,10 @@ length_then a b c (Name n) h k = k ∙ h
 
 pub counted_stays : (setting : Setting) (locals : Locals) (class : ℕ) (first second : List ℕ) (R : List ℕ → Type 0)
     (change : ℕ → ℕ) (st : State) (n : ℕ) → VariablesStay (setting_in setting.program (table_of setting.program) class)
-    locals first second R st (counted change st n)
+    locals first second R st (count_changed change st n)
 counted_stays setting locals class first second R change st n =
     record {
-      value = λ other k known p q. ap (read (counted change st n)) (named_counted setting change st n other)
+      value = λ other k known p q. ap (read (count_changed change st n)) (named_counted setting change st n other)
           ∙ read_counted change st n (cell_named setting.program st other);
       array = λ other k element known is r p q. array_counted change st n (variable_value setting.program st other);
     }
@@ -220,7 +220,7 @@ module _ (setting : Setting) (classes : KnowsClasses setting.program) (C : Conte
     pub value_apart : occurs (place_name target).text value ≡ false
 
   pub update_typed : (at : ℕ) (op : UpdateOp) (target : Lvalue) (value : Expression)
-      → check_statement typing C.locals (Update at op target value) ≡ passed → UpdateTyped target value
+      → check_statement typing C.locals (Update at op target value) ≡ verdict_passed → UpdateTyped target value
   update_typed at op target value h =
       let p = handed_on (place_type typing C.locals target) _ tt h in
       let w = handed_on (type_of typing C.locals value) _ tt p.goes in
@@ -376,7 +376,7 @@ module _ (setting : Setting) (classes : KnowsClasses setting.program) (C : Conte
     pub left_apart : in_either_index (place_name left).text left right ≡ false
     pub right_apart : in_either_index (place_name right).text left right ≡ false
 
-  pub swap_typed : (at : ℕ) (left right : Lvalue) → check_statement typing C.locals (Swap at left right) ≡ passed
+  pub swap_typed : (at : ℕ) (left right : Lvalue) → check_statement typing C.locals (Swap at left right) ≡ verdict_passed
       → SwapTyped left right
   swap_typed at left right h =
       let l = handed_on (place_type typing C.locals left) _ tt h in
@@ -421,7 +421,7 @@ module _ (setting : Setting) (classes : KnowsClasses setting.program) (C : Conte
     pub target_apart : occurs_in_index (place_name target).text target ≡ false
 
   pub copy_typed : (at : ℕ) (kind : VarType) (source target : Lvalue)
-      → copy_rules typing C.locals at kind source target ≡ passed → CopyTyped source target
+      → copy_rules typing C.locals at kind source target ≡ verdict_passed → CopyTyped source target
   copy_typed at kind source target h =
       let known = both_passed (type_known typing.table kind) _ h in
       let s = handed_on (place_type typing C.locals source) _ tt known.1 in
@@ -452,12 +452,12 @@ module _ (setting : Setting) (classes : KnowsClasses setting.program) (C : Conte
   pub places_copied : (source target : Lvalue) (st : State) (b : Cell) (x : Value) (n : ℕ) (change : ℕ → ℕ)
       → Typed setting C.extra C.shape C.class st → CopyTyped source target → cell_of program st target ≡ Ok b
       → share_array program st (own_element target) (index_elements source ++ index_elements target) ≡ false
-      → PlacesCopied source target st (counted change (written st b x) n)
+      → PlacesCopied source target st (count_changed change (written st b x) n)
   places_copied source target st b x n change t rules is_b unshared =
       let parts = rules.parts in
       let m = (place_name target).text in
       let mid = written st b x in
-      let end = counted change mid n in
+      let end = count_changed change mid n in
       let R : List ℕ → Type 0 = Avoids program st target in
       let reads = avoids_of program st target (index_elements source ++ index_elements target) unshared in
       let cells = place_apart setting classes C st target parts.second b m m R t parts.target_is is_b (λ other p q. p)
@@ -486,20 +486,20 @@ module _ (setting : Setting) (classes : KnowsClasses setting.program) (C : Conte
             (index_read program st end source sources) (index_read program st end target targets)) ∙ unshared;
       }
     where
-      counted_variable : (mid : State) (y : Lvalue) → VariableSame program mid (counted change mid n) y
+      counted_variable : (mid : State) (y : Lvalue) → VariableSame program mid (count_changed change mid n) y
       counted_variable mid (Whole y) = tt
       counted_variable mid (Item y index) = (
-        ap (read (counted change mid n)) (named_counted setting change mid n y.text)
+        ap (read (count_changed change mid n)) (named_counted setting change mid n y.text)
             ∙ read_counted change mid n (cell_named program mid y.text),
-        length_of_array mid (counted change mid n) (variable_value program mid y.text)
+        length_of_array mid (count_changed change mid n) (variable_value program mid y.text)
             (array_counted change mid n (variable_value program mid y.text)),
       )
 
   copied_facts : (at : ℕ) (written_type : VarType) (source target : Lvalue) (st : State) (a b : Cell) (x : Value)
-      (change : ℕ → ℕ) → copy_rules typing C.locals at written_type source target ≡ passed → Good setting C st
+      (change : ℕ → ℕ) → copy_rules typing C.locals at written_type source target ≡ verdict_passed → Good setting C st
       → cell_of program st source ≡ Ok a → cell_of program st target ≡ Ok b
       → share_array program st (own_element target) (index_elements source ++ index_elements target) ≡ false
-      → is_nil (read st a) ≡ false → CopyFacts program st (counted change (written st b x) (number_of (read st a)))
+      → is_nil (read st a) ≡ false → CopyFacts program st (count_changed change (written st b x) (number_of (read st a)))
       source target a b
   copied_facts at written_type source target st a b x change h g is_a is_b unshared some =
       let t = typed_in setting classes C st g in
@@ -510,7 +510,7 @@ module _ (setting : Setting) (classes : KnowsClasses setting.program) (C : Conte
       (read_fits setting C.extra C.shape C.class st a parts.first t
       (cell_typed st source parts.first a t parts.source_is is_a)) parts.first_refers some in
       let n = number_of (read st a) in
-      let end = counted change (written st b x) n in
+      let end = count_changed change (written st b x) n in
       let p = places_copied source target st b x n change t rules is_b unshared in
       record {
         there = is_cell setting classes C st b parts.second t kb;

@@ -28,7 +28,7 @@ use Rattle.meaning_reached.specs.roopl_semantics.Source.{main_fields, source}
 use Rattle.meaning_reached.specs.meaning_sound.Sound.{cell_kinds, AllFit}
 use Rattle.meaning_reached.proofs.meaning_sound_laws.Locals.{no_int_class}
 use Rattle.meaning_inverse.proofs.Law.{end_of_run}
-use Rattle.meaning_inverse.specs.InversePrograms.{field_words, names_nothing, AreInput}
+use Rattle.meaning_inverse.specs.InversePrograms.{field_words, names_nothing, AreInputCells}
 
 set_seam : (front : List Value) (z : Value) (rest : List Value) (v : Value)
     → slice_set (front ++ z ∷ rest) (length front) v ≡ front ++ v ∷ rest
@@ -150,7 +150,7 @@ module _ (program : Source) (store : Store) where
 pub final_input : (program : Source) (limits : Limits) (input : List FieldWord) (fuel : ℕ) (end : State) (cost : ℕ)
     → IsAccepted program → IsLimits limits → IsValid program input → source program limits input fuel ≡ Done end cost
     → names_nothing (object_at end.store main_name).cells ≡ true
-    → AreInput program (object_at end.store main_name).cells
+    → AreInputCells program (object_at end.store main_name).cells
 final_input program limits input fuel end cost accepted inside valid done none =
     let o = object_at end.store main_name in
     let known = end_of_run program limits input accepted inside valid fuel end cost done in

@@ -12,7 +12,7 @@ use Rattle.meaning_reached.specs.rpp_tree.declared.tree.Ident.{Ident}
 use Rattle.meaning_reached.specs.rpp_tree.declared.tree.UpdateOp.{UpdateOp}
 use Rattle.meaning_reached.specs.rpp_tree.Tree.{Expression, Lvalue, Whole, Item, Creation, Object as AnObject, Ints, Objects, Statement}
 use Rattle.meaning_reached.specs.rpp_tree.Tree.{Statements, Update, Swap, If, From, Construct, Local, New, Delete, Copy, Uncopy, Call}
-use Rattle.meaning_reached.specs.rpp_tree.Tree.{End, Then, Procedure, Source, Part, Operand, Target, Typed as TypedTarget}
+use Rattle.meaning_reached.specs.rpp_tree.Tree.{End, Then, Procedure, Source, TreePart, Operand, Target, Typed as TypedTarget}
 use Rattle.meaning_reached.specs.rpp_tree.Tree.{Creates, Invokes, each_part, own_parts}
 use Rattle.meaning_reached.specs.class_rules.Expressions.{occurs}
 use Rattle.meaning_reached.specs.roopl_semantics.Run.{Done}
@@ -22,7 +22,7 @@ use Rattle.meaning_reached.specs.roopl_semantics.Store.{main_name, is_nil, numbe
 use Rattle.meaning_reached.specs.roopl_semantics.Value.{Cell, value_at, read, written, value as value_in, cell_of, cell_named}
 use Rattle.meaning_reached.specs.roopl_semantics.Value.{own_class}
 use Rattle.meaning_reached.specs.roopl_semantics.Elements.{elements, index_elements, own_element, share_array}
-use Rattle.meaning_reached.specs.roopl_semantics.Execution.{Setting, order_of_cells, new_object as new_thing, freed, all_zero, counted}
+use Rattle.meaning_reached.specs.roopl_semantics.Execution.{Setting, order_of_cells, new_object as new_thing, freed, all_zero, count_changed}
 use Rattle.meaning_reached.specs.roopl_semantics.Execution.{one_less, same_cell, bound, opened, moved_out, moved_back, in_direction}
 use Rattle.meaning_reached.specs.roopl_semantics.Execution.{constructed, element_call, element_name, cells_named, class_of, is_too_deep}
 use Rattle.meaning_reached.specs.roopl_semantics.Execution.{exec}
@@ -47,7 +47,7 @@ CleanMade program st (AnObject class) = Unit {0}
 CleanMade program st (Ints size) = Clean program st size
 CleanMade program st (Objects class size) = Clean program st size
 
-abbrev pub CleanPart : Source → State → Part → Type 0
+abbrev pub CleanPart : Source → State → TreePart → Type 0
 CleanPart program st (Operand value) = Clean program st value
 CleanPart program st (Target place) = CleanPlace program st place
 CleanPart program st (TypedTarget kind place) = CleanPlace program st place
@@ -176,10 +176,10 @@ pub record CopyFacts (program : Source) (st after : State) (source target : Lval
 
 -- the state after a copy, and after its inverse
 abbrev pub copied : State → Cell → Cell → State
-copied st a b = counted suc (written st b (read st a)) (number_of (read st a))
+copied st a b = count_changed suc (written st b (read st a)) (number_of (read st a))
 
 abbrev pub uncopied : State → Cell → Cell → State
-uncopied st a b = counted one_less (written st b Nil) (number_of (read st a))
+uncopied st a b = count_changed one_less (written st b Nil) (number_of (read st a))
 
 -- each cell of a list
 abbrev pub Each : (Cell → Type 0) → List Cell → Type 0

@@ -21,7 +21,7 @@ use Rattle.meaning_reached.specs.roopl_semantics.Value.{Cell, Slot, Part, cell_n
 use Rattle.meaning_reached.specs.roopl_semantics.Execution.{Setting, same_cell, bound, moved_out, moved_back, cells_named, class_of}
 use Rattle.meaning_reached.specs.roopl_semantics.Execution.{exec}
 use Rattle.meaning_reached.specs.class_rules.Inheritance.{kind_of_var}
-use Rattle.meaning_reached.specs.meaning_sound.Sound.{head_of, head_named, is_live, fits, cell_kinds, cell_kind, Descending}
+use Rattle.meaning_reached.specs.meaning_sound.Sound.{head_of, head_named, is_live, is_of_kind, cell_kinds, cell_kind, Descending}
 use Rattle.meaning_reached.proofs.meaning_sound_laws.Lists.{all_inside, all_get}
 use Rattle.meaning_reached.proofs.meaning_sound_laws.Stores.{live_object}
 use Rattle.meaning_reached.specs.meaning_sound.Sound.{Typed}
@@ -48,7 +48,7 @@ use Rattle.meaning_inverse.proofs.MakeFacts.{delete_ints_facts, delete_objects_f
 use Rattle.meaning_inverse.proofs.Entries.{Entry, local_entry, local_rules_say, local_typed, construct_entry}
 use Rattle.meaning_inverse.proofs.Entries.{element_entry}
 use Rattle.meaning_inverse.proofs.Entries.{IsCallIn, own_call, object_call, CallInner, call_inner}
-use Rattle.meaning_inverse.specs.InverseLaws.{LeadsBack}
+use Rattle.meaning_inverse.specs.InverseLaws.{InverseLeadsBack}
 use Rattle.meaning_inverse.proofs.Seen.{Names, Sees}
 use Rattle.meaning_inverse.proofs.Undone.{BlockUndone}
 use Rattle.meaning_inverse.proofs.Whole.{undo_block, block_leads_back}
@@ -216,7 +216,7 @@ module _ (setting : Setting) (classes : KnowsClasses setting.program) where
           (read_fits setting C.extra C.shape C.class (moved_out cells st) (Slot i) k moved.moved.typed h)
       sort_mid end good (Part n i) k h =
           let p = part_of program end.store n i k h in
-          let P : Object → Type 0 = λ o. fits program end.store (unwrap_or (slice_get o.cells i) Nil) k ≡ true in
+          let P : Object → Type 0 = λ o. is_of_kind program end.store (unwrap_or (slice_get o.cells i) Nil) k ≡ true in
           word_of_kind program end.store (read (returned cells st end) (Part n i)) k
           (subst P (sym p.at) (all_get program end.store (cell_kinds program p.object.head) p.object.cells i k
           (good.sound.objects n p.object p.named) p.kind_is))
@@ -460,7 +460,7 @@ module _ (setting : Setting) (classes : KnowsClasses setting.program) where
 
   -- the inverse of a checked block leads back from where the block led from a good state
   pub leads_back_from : (C : Context setting) (n : ℕ) (body : Statements) (a b : State) (c : ℕ) → Checked setting C body
-      → Good setting C a → exec setting n body a ≡ Done b c → LeadsBack setting body a b c
+      → Good setting C a → exec setting n body a ≡ Done b c → InverseLeadsBack setting body a b c
   unfolding grounded
   leads_back_from C n body a b c checked good e = block_leads_back setting grounded C n body a b c checked good e
 

@@ -9,10 +9,10 @@ use Rattle.meaning_reached.specs.class_rules.declared.kind.Kind.TheVariants as k
 use Rattle.meaning_reached.specs.class_rules.Table.{Table, table_of}
 use Rattle.meaning_reached.specs.class_rules.Scope.{Typing, Locals}
 use Rattle.meaning_reached.specs.class_rules.Refusal.{type_differs, refused_operator}
-use Rattle.meaning_reached.specs.class_rules.Expressions.{is_int, element_of as element_type, index_is_int, variable_type, type_of}
+use Rattle.meaning_reached.specs.class_rules.Expressions.{is_int, element_kind_of as element_type, index_is_int, variable_type, type_of}
 use Rattle.meaning_reached.specs.class_rules.Expressions.{place_type, is_comparison, is_refused, compares, operands_fit, operator_type}
 use Rattle.meaning_reached.specs.class_rules.Expressions.{first_token}
-use Rattle.meaning_reached.specs.class_rules.Statements.{passed, check_statements}
+use Rattle.meaning_reached.specs.class_rules.Statements.{verdict_passed, check_statements}
 use Rattle.meaning_reached.specs.class_rules.Program.{setting_in}
 use Rattle.meaning_reached.specs.buddy_book.Place.{block_of, count_taken}
 use Rattle.meaning_reached.proofs.buddy_book_laws.Kept.{given_back}
@@ -21,8 +21,8 @@ use Rattle.meaning_reached.specs.roopl_semantics.Store.{object_named, object_at,
 use Rattle.meaning_reached.specs.roopl_semantics.Value.{Cell, Slot, Part, read, value as value_in}
 use Rattle.meaning_reached.specs.roopl_semantics.Execution.{Setting, order_of_cells}
 use Rattle.meaning_reached.specs.roopl_semantics.Laws.{one_if_name}
-use Rattle.meaning_reached.specs.meaning_sound.Sound.{Sound, Descending, entry_name, fits, named_fits, head_of, head_named, count_of}
-use Rattle.meaning_reached.specs.meaning_sound.Sound.{is_live, cell_kinds, local_type, value_of, held, cell_kind}
+use Rattle.meaning_reached.specs.meaning_sound.Sound.{Sound, Descending, entry_name, is_of_kind, named_fits, head_of, head_named, count_of}
+use Rattle.meaning_reached.specs.meaning_sound.Sound.{is_live, cell_kinds, local_type, bound_value, held, cell_kind}
 use Rattle.meaning_reached.specs.meaning_sound.Plain.{HasWords, PlaceHasWords, IsPlain}
 use Rattle.meaning_reached.proofs.meaning_sound_laws.Lists.{all_inside, all_length, holders_get}
 use Rattle.meaning_reached.proofs.meaning_sound_laws.Stores.{live_object, live_named, holders_inside, none_above, below_bound}
@@ -58,7 +58,7 @@ pub record Good (setting : Setting) (C : Context setting) (st : State) : Type 0 
   pub arrays : ArraysHaveElements st.store
 
 pub record Checked (setting : Setting) (C : Context setting) (body : Statements) : Type 0 where
-  pub passes : check_statements (setting_in setting.program (table_of setting.program) C.class) C.locals body ≡ passed
+  pub passes : check_statements (setting_in setting.program (table_of setting.program) C.class) C.locals body ≡ verdict_passed
   pub plain : IsPlain body
 
 -- ---- names
@@ -113,7 +113,7 @@ drawn_of setting extra shape class st s =
 
 -- ---- values and their types
 
-pub word_of_kind : (program : Source) (store : Store) (v : Value) (k : Kind) → fits program store v k ≡ true
+pub word_of_kind : (program : Source) (store : Store) (v : Value) (k : Kind) → is_of_kind program store v k ≡ true
     → is_word v ≡ is_int k
 word_of_kind program store (Word w) k h = sym (both_true (is_int k) _ h).0
 word_of_kind program store Nil k h = by (is_int k) h
@@ -236,8 +236,8 @@ module _ (setting : Setting) (classes : KnowsClasses setting.program) (C : Conte
             (value_fits setting classes C.extra C.locals C.shape C.class C.inside C.means st right r.value t w.1 r.is),
       )
     where
-      fit : (a b : Kind) → operands_fit typing.table o a b ≡ true → (x y : Value) → fits program st.store x a ≡ true
-          → fits program st.store y b ≡ true → AreFit (is_comparison o) x y
+      fit : (a b : Kind) → operands_fit typing.table o a b ≡ true → (x y : Value) → is_of_kind program st.store x a ≡ true
+          → is_of_kind program st.store y b ≡ true → AreFit (is_comparison o) x y
       fit a b h x y f g = by (is_comparison o) h
         where
           wx : is_word x ≡ is_int a
@@ -275,9 +275,9 @@ module _ (setting : Setting) (classes : KnowsClasses setting.program) (C : Conte
   pub is_cell : (st : State) (c : Cell) (k : Kind) → Typed setting C.extra C.shape C.class st
       → cell_kind program C.shape st.store c ≡ Some k → IsCell st c
   is_cell st (Slot i) k t h = IsSlot i (let a = all_inside program st.store (map local_type C.shape)
-      (map value_of st.frame) i k t.variables h in let l = length_values st.frame in omega arith)
+      (map bound_value st.frame) i k t.variables h in let l = length_values st.frame in omega arith)
     where
-      length_values : (frame : List Binding) → length (map value_of frame) ≡ length frame
+      length_values : (frame : List Binding) → length (map bound_value frame) ≡ length frame
       length_values [] = refl
       length_values (b ∷ frame) = ap suc (length_values frame)
   is_cell st (Part n i) k t h =
@@ -294,8 +294,8 @@ module _ (setting : Setting) (classes : KnowsClasses setting.program) (C : Conte
         self = live_of st.store st.self (let o = is_object program C.class st.store st.self t.self_is in
             ap is_some o.head);
         frame = λ i name e. live_of st.store name (all_live program st.store (map local_type C.shape)
-            (map value_of st.frame) name t.variables
-            (let a = holders_get name (map value_of st.frame) i in
+            (map bound_value st.frame) name t.variables
+            (let a = holders_get name (map bound_value st.frame) i in
             let b = ap (one_if_name name) (sym (value_at_is st.frame i) ∙ e) ∙ one_name name in omega arith));
         cells = λ n object e i name q. live_of st.store name
             (all_live program st.store (cell_kinds program object.head) object.cells name (t.objects n object e)
@@ -305,7 +305,7 @@ module _ (setting : Setting) (classes : KnowsClasses setting.program) (C : Conte
 
   -- how often a cell's name is held
   pub held_once : (st : State) (c : Cell) (n : ℕ) → read st c ≡ Name n → 0 < held n st
-  held_once st (Slot i) n e = let a = holders_get n (map value_of st.frame) i in let b =
+  held_once st (Slot i) n e = let a = holders_get n (map bound_value st.frame) i in let b =
       ap (one_if_name n) (sym (value_at_is st.frame i) ∙ e) ∙ one_name n in omega arith
   held_once st (Part k i) n e = by (object_named st.store k) refl e
     where

@@ -21,7 +21,7 @@ use Rattle.meaning_reached.specs.roopl_semantics.Execution.{is_of_class, same_ce
 use Rattle.meaning_reached.specs.roopl_semantics.Execution.{NOT_SAME, TOO_DEEP, NOT_NIL, LENGTH}
 use Rattle.meaning_reached.specs.roopl_semantics.Execution.{LENGTH_DIFFERS, COUNT, NOT_EMPTY, all_zero, Setting}
 use Rattle.meaning_reached.specs.roopl_semantics.Execution.{Runner, bound, opened, closed, rest_of, moved_out, moved_back, new_object}
-use Rattle.meaning_reached.specs.roopl_semantics.Execution.{order_of_cells, counted, one_less, element_name, constructed, element_call}
+use Rattle.meaning_reached.specs.roopl_semantics.Execution.{order_of_cells, count_changed, one_less, element_name, constructed, element_call}
 use Rattle.meaning_reached.specs.roopl_semantics.Execution.{cells_named, class_of, is_too_deep, invoked, allocated, freed, new_array}
 use Rattle.meaning_reached.specs.roopl_semantics.Execution.{delete_array, with_local, turn_end, turns, statement, exec, holds}
 use Rattle.meaning_reached.specs.roopl_semantics.Laws.{HasNamesOnce as IsUnique}
@@ -173,7 +173,7 @@ later_written st (Slot i) v s = record {
 }
 later_written st (Part name i) v s = later_changed st name _ (λ o. refl) s
 
-pub later_counted : (change : ℕ → ℕ) (st : State) (n : ℕ) → IsSound st → Later st (counted change st n)
+pub later_counted : (change : ℕ → ℕ) (st : State) (n : ℕ) → IsSound st → Later st (count_changed change st n)
 later_counted change st n s = later_changed st n _ (λ o. refl) s
 
 pub later_dropped : (st : State) (n order : ℕ) → IsSound st
@@ -448,7 +448,7 @@ module _ (setting : Setting) (run : Runner) (ih : (b : Statements) (st : State) 
       (index_elements source ++ index_elements target) st) _ _
       (λ z. ends_then (fault_if NIL (is_nil (read st a))) _ _
       (λ u. ends_then (fault_if NOT_NIL (not (is_nil (read st b)))) _ _ (λ w.
-      ends_done (counted suc (written st b (read st a)) (number_of (read st a))) 0 _
+      ends_done (count_changed suc (written st b (read st a)) (number_of (read st a))) 0 _
       (λ s. (let one = later_written st b (read st a) s in
       later_then st _ _ one (later_counted suc _ (number_of (read st a)) one.sound))))))))
   keeps_statement n (Uncopy at kind source target) st =
@@ -457,7 +457,7 @@ module _ (setting : Setting) (run : Runner) (ih : (b : Statements) (st : State) 
       (index_elements source ++ index_elements target) st) _ _
       (λ z. ends_then (fault_if NIL (is_nil (read st a))) _ _ (λ u.
       ends_then (fault_if NOT_SAME (not (same_value (read st a) (read st b)) || same_cell a b)) _ _ (λ w.
-      ends_done (counted one_less (written st b Nil) (number_of (read st a))) 0 _
+      ends_done (count_changed one_less (written st b Nil) (number_of (read st a))) 0 _
       (λ s. (let one = later_written st b Nil s in later_then st _ _ one
       (later_counted one_less _ (number_of (read st a)) one.sound))))))))
   keeps_statement n (Call at back None method args) st =

@@ -11,7 +11,7 @@ use Rattle.meaning_reached.specs.roopl_semantics.Execution.{Setting, exec}
 use Rattle.meaning_reached.specs.rpp_words.Limits.{IsLimits}
 use Rattle.meaning_reached.specs.class_rules.Classes.{main_of}
 use Rattle.meaning_reached.specs.roopl_semantics.Source.{IsValid, main_body, main_object, source, starting}
-use Rattle.meaning_inverse.specs.InverseLaws.{LeadsBack}
+use Rattle.meaning_inverse.specs.InverseLaws.{InverseLeadsBack}
 use Rattle.meaning_reached.proofs.roopl_semantics_laws.MainPlace.{class_inside}
 use Rattle.meaning_reached.specs.meaning_sound.Plain.{ProgramIsPlain}
 use Rattle.meaning_reached.proofs.meaning_sound_laws.Accepted.{knows_classes}
@@ -19,7 +19,7 @@ use Rattle.meaning_reached.proofs.meaning_sound_laws.Plainness.{program_plain}
 use Rattle.meaning_reached.proofs.meaning_sound_laws.Starting.{starting_sound, main_text}
 use Rattle.meaning_reached.specs.class_rules.Scope.{Locals}
 use Rattle.meaning_reached.specs.class_rules.Table.{table_of}
-use Rattle.meaning_reached.specs.class_rules.Statements.{passed, check_statements}
+use Rattle.meaning_reached.specs.class_rules.Statements.{verdict_passed, check_statements}
 use Rattle.meaning_reached.specs.class_rules.Program.{setting_in}
 use Rattle.meaning_reached.specs.meaning_sound.Sound.{Sound, main_alone}
 use Rattle.meaning_reached.specs.meaning_sound.Plain.{IsPlain}
@@ -114,7 +114,7 @@ module _ (program : Source) (limits : Limits) (input : List FieldWord) (accepted
       }
 
   pub leads_back : (fuel : ℕ) (end : State) (cost : ℕ) → source program limits input fuel ≡ Done end cost
-      → LeadsBack setting (main_body program) (starting program input) end cost
+      → InverseLeadsBack setting (main_body program) (starting program input) end cost
   leads_back fuel end cost e =
       let over = within_done fuel (exec setting fuel (main_body program) (starting program input)) end cost e in
       leads_back_from setting (knows_classes program accepted plain) main_context fuel (main_body program)
@@ -145,7 +145,7 @@ module _ (program : Source) (limits : Limits) (input : List FieldWord) (accepted
 module _ (program : Source) (limits : Limits) (extra : ℕ → ℕ) (locals shape : Locals) (class : ℕ) (body : Statements)
     (start : State) (accepted : IsAccepted program) (inside : class < length program.classes)
     (means : MeansSame locals shape)
-    (passes : check_statements (setting_in program (table_of program) class) locals body ≡ passed)
+    (passes : check_statements (setting_in program (table_of program) class) locals body ≡ verdict_passed)
     (plain : IsPlain body) (sound : Sound (record { program = program; limits = limits }) extra shape class start)
     (arrays : ArraysHaveElements start.store) where
   abbrev here : Setting
@@ -164,7 +164,7 @@ module _ (program : Source) (limits : Limits) (extra : ℕ → ℕ) (locals shap
   good = record { sound = sound; drawn = drawn_of here extra shape class start sound; arrays = arrays }
 
   pub block_undone : (fuel : ℕ) (end : State) (cost : ℕ) → exec here fuel body start ≡ Done end cost
-      → LeadsBack here body start end cost
+      → InverseLeadsBack here body start end cost
   block_undone fuel end cost e = leads_back_from here classes context fuel body start end cost checked good e
 
   pub arrays_kept : (fuel : ℕ) (end : State) (cost : ℕ) → exec here fuel body start ≡ Done end cost

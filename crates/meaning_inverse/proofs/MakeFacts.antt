@@ -9,7 +9,7 @@ use Rattle.meaning_reached.specs.class_rules.declared.kind.Kind.TheVariants as k
 use Rattle.meaning_reached.specs.class_rules.Table.{table_of, class_of}
 use Rattle.meaning_reached.specs.class_rules.Classes.{class_fields}
 use Rattle.meaning_reached.specs.class_rules.Scope.{Typing}
-use Rattle.meaning_reached.specs.class_rules.Expressions.{and_then, is_int, element_kind as elements_of, type_of, occurs}
+use Rattle.meaning_reached.specs.class_rules.Expressions.{then_checked, is_int, element_kind as elements_of, type_of, occurs}
 use Rattle.meaning_reached.specs.rpp_tree.Places.{place_name}
 use Rattle.meaning_reached.specs.class_rules.Statements.{is_int_array, takes_objects_of}
 use Rattle.meaning_reached.specs.class_rules.Program.{setting_in}
@@ -18,7 +18,7 @@ use Rattle.meaning_reached.specs.roopl_semantics.Store.{main_name, number_of, is
 use Rattle.meaning_reached.specs.roopl_semantics.Value.{Cell, read, value as value_in, cell_of}
 use Rattle.meaning_reached.specs.roopl_semantics.Elements.{elements, index_elements, own_element, share_array}
 use Rattle.meaning_reached.specs.roopl_semantics.Execution.{Setting, order_of_cells, freed}
-use Rattle.meaning_reached.specs.meaning_sound.Sound.{fits, named_fits, head_fits, head_of, head_named, cell_kinds, AllFit, cell_kind}
+use Rattle.meaning_reached.specs.meaning_sound.Sound.{is_of_kind, named_fits, head_fits, head_of, head_named, cell_kinds, AllFit, cell_kind}
 use Rattle.meaning_reached.specs.meaning_sound.Plain.{HasWords}
 use Rattle.meaning_reached.proofs.meaning_sound_laws.Lists.{all_length}
 use Rattle.meaning_reached.proofs.meaning_sound_laws.Cells.{read_fits}
@@ -142,7 +142,7 @@ module _ (setting : Setting) (classes : KnowsClasses setting.program) (C : Conte
     count : ℕ
     is_count : v ≡ Word count
 
-  pub length_typed : (size : Expression) → and_then (type_of typing C.locals size) (λ l. Ok (is_int l)) ≡ Ok true
+  pub length_typed : (size : Expression) → then_checked (type_of typing C.locals size) (λ l. Ok (is_int l)) ≡ Ok true
       → type_of typing C.locals size ≡ Ok kind.Int
   length_typed size h =
       let l = handed_on (type_of typing C.locals size) (λ l. Ok (is_int l)) true h in
@@ -150,7 +150,7 @@ module _ (setting : Setting) (classes : KnowsClasses setting.program) (C : Conte
       l.is ∙ ap (λ k. Ok k) (int_kind l.value int)
 
   length_is : (st : State) (size : Expression) (v : Value) → Good setting C st → HasWords size
-      → and_then (type_of typing C.locals size) (λ l. Ok (is_int l)) ≡ Ok true → value_in program st size ≡ Ok v
+      → then_checked (type_of typing C.locals size) (λ l. Ok (is_int l)) ≡ Ok true → value_in program st size ≡ Ok v
       → LengthIs st size v
   length_is st size v g words h is =
       let typed = length_typed size h in
@@ -162,7 +162,7 @@ module _ (setting : Setting) (classes : KnowsClasses setting.program) (C : Conte
   new_array_facts : (made : Creation) (target : Lvalue) (size : Expression) (head : ℕ → Head) (element : Value)
       (st : State) (cell : Cell) (v : Value) → (p : MakeParts typing C.locals made target)
       → ((x : Kind) → elements_of x ≡ Some p.type → ⊥) → HasWords size
-      → and_then (type_of typing C.locals size) (λ l. Ok (is_int l)) ≡ Ok true
+      → then_checked (type_of typing C.locals size) (λ l. Ok (is_int l)) ≡ Ok true
       → occurs (place_name target).text size ≡ false → Good setting C st
       → cell_of program st target ≡ Ok cell → value_in program st size ≡ Ok v
       → NewArrayFacts program st target size head element cell v
@@ -214,7 +214,7 @@ module _ (setting : Setting) (classes : KnowsClasses setting.program) (C : Conte
   deleted_name st cell k g kind_is no_int some =
       let fit = read_fits setting C.extra C.shape C.class st cell k (typed_in setting classes C st g) kind_is in
       let n = reference program st.store (read st cell) k fit no_int some in
-      let P : Value → Type 0 = λ v. fits program st.store v k ≡ true in
+      let P : Value → Type 0 = λ v. is_of_kind program st.store v k ≡ true in
       record {
         name = n.name;
         is_name = n.is;
@@ -263,7 +263,7 @@ module _ (setting : Setting) (classes : KnowsClasses setting.program) (C : Conte
   delete_array_facts : (made : Creation) (target : Lvalue) (size : Expression) (head : ℕ → Head) (element : Value)
       (element_kind : Kind) (st : State) (cell : Cell) (v : Value) → (p : MakeParts typing C.locals made target)
       → ((x : Kind) → elements_of x ≡ Some p.type → ⊥) → HasWords size
-      → and_then (type_of typing C.locals size) (λ l. Ok (is_int l)) ≡ Ok true
+      → then_checked (type_of typing C.locals size) (λ l. Ok (is_int l)) ≡ Ok true
       → occurs (place_name target).text size ≡ false → ((h : Head) → head_fits program p.type h ≡ true
       → ArrayHead program p.type h head element_kind) → (if is_int element_kind then Word 0 else Nil) ≡ element
       → is_int p.type ≡ false

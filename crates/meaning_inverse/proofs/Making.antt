@@ -13,7 +13,7 @@ use Rattle.meaning_reached.specs.class_rules.Refusal.{type_differs, self_update}
 use Rattle.meaning_reached.specs.class_rules.Scope.{Typing, Locals, kind_in, kind_of, array_kind}
 use Rattle.meaning_reached.specs.class_rules.Expressions.{is_int, element_kind, type_of, place_type, occurs}
 use Rattle.meaning_reached.specs.rpp_tree.Places.{place_name}
-use Rattle.meaning_reached.specs.class_rules.Statements.{passed, required, occurs_in_own_index, occurs_in_length, make_rules}
+use Rattle.meaning_reached.specs.class_rules.Statements.{verdict_passed, required, occurs_in_own_index, occurs_in_length, make_rules}
 use Rattle.meaning_reached.specs.class_rules.Statements.{made_known, length_is_int, takes}
 use Rattle.meaning_reached.specs.class_rules.Program.{setting_in}
 use Rattle.meaning_reached.specs.buddy_book.Place.{count_taken}
@@ -104,7 +104,7 @@ pub record MakeParts (typing : Typing) (locals : Locals) (made : Creation) (plac
   pub length : occurs_in_length (place_name place).text made ≡ false
 
 pub make_parts : (typing : Typing) (locals : Locals) (at : ℕ) (made : Creation) (place : Lvalue)
-    → make_rules typing locals at made place ≡ passed → MakeParts typing locals made place
+    → make_rules typing locals at made place ≡ verdict_passed → MakeParts typing locals made place
 make_parts typing locals at made place h =
     let known = both_passed (made_known typing.table made) _ h in
     let p = handed_on (place_type typing locals place) _ tt known.1 in

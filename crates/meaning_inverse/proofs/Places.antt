@@ -3,7 +3,7 @@ use Rattle.std.proofs.Common.{◌≡◌, ◌≢◌, ℕ, zero, suc, ◌+◌, ◌
 use Rattle.std.proofs.Common.{Bool, List, [], ◌∷◌, Some, None, Option, option_map, nat_eq, nat_le, is_none, eqb-true}
 use Rattle.std.proofs.Common.{eq-eqb, ne_eqb, if◌then◌else◌}
 use Rattle.meaning_reached.specs.code_conventions.declared.memory.TheConstants.{HEADER_WORDS}
-use Rattle.meaning_reached.specs.buddy_book.Book.{Book, take, give, order_from}
+use Rattle.meaning_reached.specs.buddy_book.Book.{Book, take, give_back, order_from}
 use Rattle.meaning_reached.specs.buddy_book.Shown.{is_sound}
 use Rattle.meaning_reached.specs.buddy_book.Place.{Log, Taken, Given, count_taken, Placing, block_of, without_name, with_block}
 use Rattle.meaning_reached.specs.buddy_book.Place.{after_request, place}
@@ -49,8 +49,8 @@ given_book : (p q : Option Placing) (n n' o : ℕ) → book_of q ≡ book_of p �
 given_book None None n n' o e h = refl
 given_book None (Some q) n n' o e h = cc
 given_book (Some p) None n n' o e h = cc
-given_book (Some p) (Some q) n n' o e h = ap (λ b. Some (give b o (block_of q.blocks n'))) (same_Some q.book p.book e)
-    ∙ ap (λ k. Some (give p.book o k)) (same_Some (block_of q.blocks n') (block_of p.blocks n) h)
+given_book (Some p) (Some q) n n' o e h = ap (λ b. Some (give_back b o (block_of q.blocks n'))) (same_Some q.book p.book e)
+    ∙ ap (λ k. Some (give_back p.book o k)) (same_Some (block_of q.blocks n') (block_of p.blocks n) h)
 
 given_block : (p q : Option Placing) (n n' m m' o : ℕ) → nat_eq n m ≡ false → nat_eq n' m' ≡ false
     → block_in q m' ≡ block_in p m → block_in (after_request (Given n' o) q) m'
@@ -74,7 +74,7 @@ taken_given h name o at from sound some = by (take at.book o) refl some
         let took = take_took h o block at.book book from sound e in
         let same : nat_eq name name ≡ true = eq-eqb name name refl in
         ap (λ t. Some (record {
-          book = give book o (if t then block else block_of at.blocks name);
+          book = give_back book o (if t then block else block_of at.blocks name);
           blocks = if t then at.blocks else (name, block) ∷ without_name at.blocks name;
         })) same
         ∙ ap (λ b. Some (record { book = b; blocks = at.blocks })) took.undone

@@ -16,9 +16,9 @@ use Rattle.meaning_reached.specs.class_rules.Refusal.{refused}
 use Rattle.meaning_reached.specs.rpp_tree.declared.limits.TheConstants.{MOST_FIELDS, MOST_METHODS}
 use Rattle.meaning_reached.specs.class_rules.First.{refused_if, first_in, first_after, first_at, each_below}
 use Rattle.meaning_reached.specs.class_rules.Names.{has_name}
-use Rattle.meaning_reached.specs.class_rules.Rules.{name_of, class_names, name_taken, duplicate_class, unknown_parent, unknown_var}
+use Rattle.meaning_reached.specs.class_rules.Rules.{class_name, all_class_names, name_taken, duplicate_class, unknown_parent, unknown_var}
 use Rattle.meaning_reached.specs.class_rules.Rules.{unknown_params, unknown_in_class, unknown_class}
-use Rattle.meaning_reached.specs.class_rules.Chains.{parent_named, parents, chain, chain_of, endless_chain, inheritance_cycle, line_of}
+use Rattle.meaning_reached.specs.class_rules.Chains.{parent_named, parents, chain, chain_of, endless_chain, inheritance_cycle, class_line}
 use Rattle.meaning_reached.specs.class_rules.Chains.{lines}
 use Rattle.meaning_reached.specs.class_rules.Members.{no_class, no_procedure, class_at, fields_along, inherited, fields}
 use Rattle.meaning_reached.specs.class_rules.Members.{field_name, taken_field, duplicate_field_at, duplicate_field, too_many_fields_at}
@@ -96,23 +96,23 @@ module _ (program : Source) where
   abbrev other : Source
   other = inverse_program program
 
-  pub names_kept : class_names other ≡ class_names program
-  names_kept = map_after name_of inverse_class name_of (λ c. refl) program.classes
+  pub names_kept : all_class_names other ≡ all_class_names program
+  names_kept = map_after class_name inverse_class class_name (λ c. refl) program.classes
 
   pub as_many_classes : length other.classes ≡ length program.classes
   as_many_classes = length-map program.classes inverse_class
 
   parents_kept : parents other ≡ parents program
   parents_kept =
-      map_after (λ (c : ClassText). parent_named (class_names other) c.parent) inverse_class
-      (λ (c : ClassText). parent_named (class_names other) c.parent) (λ c. refl) program.classes
+      map_after (λ (c : ClassText). parent_named (all_class_names other) c.parent) inverse_class
+      (λ (c : ClassText). parent_named (all_class_names other) c.parent) (λ c. refl) program.classes
       ∙ ap (λ names. map (λ (c : ClassText). parent_named names c.parent) program.classes) names_kept
 
   chains_kept : (class : ℕ) → chain_of other class ≡ chain_of program class
   chains_kept class = ap (λ n. chain n (parents other) (Some class)) as_many_classes
       ∙ ap (λ ps. chain (length program.classes) ps (Some class)) parents_kept
 
-  lines_kept : line_of other ≡ line_of program
+  lines_kept : class_line other ≡ class_line program
   lines_kept = fun_ext (λ class. ap (λ o. unwrap_or o []) (chains_kept class))
 
   pub class_kept : (class : ℕ) → class_at other class ≡ inverse_class (class_at program class)
@@ -125,11 +125,11 @@ module _ (program : Source) where
       ∙ ap (λ l. (class_at program class).fields ++ l) (along_kept below)
 
   pub fields_kept : (class : ℕ) → class_fields other class ≡ class_fields program class
-  fields_kept class = ap (λ f. fields_along other (f class)) lines_kept ∙ along_kept (line_of program class)
+  fields_kept class = ap (λ f. fields_along other (f class)) lines_kept ∙ along_kept (class_line program class)
 
   inherited_kept : (class : ℕ) → inherited other class ≡ inherited program class
   inherited_kept class = ap (λ f. fields_along other (take (length (f class) - 1) (f class))) lines_kept
-      ∙ along_kept (take (length (line_of program class) - 1) (line_of program class))
+      ∙ along_kept (take (length (class_line program class) - 1) (class_line program class))
 
   slots_kept_along : (found : Slots) (line : List ℕ) → slots_along other found line ≡ slots_along program found line
   slots_kept_along found [] = refl
@@ -139,11 +139,11 @@ module _ (program : Source) where
       ∙ slots_kept_along (with_methods class 0 (class_at program class).methods found) below
 
   pub slots_kept : (class : ℕ) → class_slots other class ≡ class_slots program class
-  slots_kept class = ap (λ f. slots_along other [] (f class)) lines_kept ∙ slots_kept_along [] (line_of program class)
+  slots_kept class = ap (λ f. slots_along other [] (f class)) lines_kept ∙ slots_kept_along [] (class_line program class)
 
   inherited_slots_kept : (class : ℕ) → inherited_slots other class ≡ inherited_slots program class
   inherited_slots_kept class = ap (λ f. slots_along other [] (take (length (f class) - 1) (f class))) lines_kept
-      ∙ slots_kept_along [] (take (length (line_of program class) - 1) (line_of program class))
+      ∙ slots_kept_along [] (take (length (class_line program class) - 1) (class_line program class))
 
   mains_kept : mains other ≡ mains program
   mains_kept = mains_kept_from 0 program.classes
@@ -167,29 +167,29 @@ module _ (program : Source) where
         main = first_main (mains other);
       }) names_kept
       ∙ ap (λ x. record {
-        names = class_names program;
+        names = all_class_names program;
         lines = x;
         fields = fields other;
         slots = slots other;
         main = first_main (mains other);
-      }) (each_kept (line_of other) (line_of program)
+      }) (each_kept (class_line other) (class_line program)
       (λ n. ap (λ f. f n) lines_kept))
       ∙ ap (λ x. record {
-        names = class_names program;
+        names = all_class_names program;
         lines = lines program;
         fields = x;
         slots = slots other;
         main = first_main (mains other);
       }) (each_kept (class_fields other) (class_fields program) fields_kept)
       ∙ ap (λ x. record {
-        names = class_names program;
+        names = all_class_names program;
         lines = lines program;
         fields = fields program;
         slots = x;
         main = first_main (mains other);
       }) (each_kept (class_slots other) (class_slots program) slots_kept)
       ∙ ap (λ x. record {
-        names = class_names program;
+        names = all_class_names program;
         lines = lines program;
         fields = fields program;
         slots = slots program;
@@ -223,7 +223,7 @@ module _ (program : Source) where
   same_duplicate_class : duplicate_class other ≡ duplicate_class program
   same_duplicate_class = first_after_after name_taken inverse_class name_taken
       (λ before c. ap (λ l. refused_if (list_any (bytes_eq c.name.text) l) (refused 5 c.name.at))
-      (map_after name_of inverse_class name_of (λ x. refl) before)) [] program.classes
+      (map_after class_name inverse_class class_name (λ x. refl) before)) [] program.classes
 
   same_unknown_in : (names : List (List ℕ)) (c : ClassText)
       → unknown_in_class names (inverse_class c) ≡ unknown_in_class names c
@@ -232,8 +232,8 @@ module _ (program : Source) where
       (first_in_after (unknown_params names) inverse_procedure (unknown_params names) (λ m. refl) c.methods)
 
   same_unknown : unknown_class other ≡ unknown_class program
-  same_unknown = first_in_after (unknown_in_class (class_names other)) inverse_class
-      (unknown_in_class (class_names program)) (λ c. same_unknown_in (class_names other) c
+  same_unknown = first_in_after (unknown_in_class (all_class_names other)) inverse_class
+      (unknown_in_class (all_class_names program)) (λ c. same_unknown_in (all_class_names other) c
       ∙ ap (λ names. unknown_in_class names c) names_kept) program.classes
 
   same_cycle : inheritance_cycle other ≡ inheritance_cycle program

@@ -9,8 +9,8 @@ use Rattle.meaning_reached.specs.rpp_tree.Tree.{Procedure, ClassText, Source}
 use Rattle.meaning_reached.specs.class_rules.Scope.{Typing, Locals}
 use Rattle.meaning_reached.specs.class_rules.Refusal.{wrong_arity}
 use Rattle.meaning_reached.specs.class_rules.Table.{Table, table_of, slot_in, dispatch_in}
-use Rattle.meaning_reached.specs.class_rules.Expressions.{and_then}
-use Rattle.meaning_reached.specs.class_rules.Statements.{passed, required, in_turn, each_passes, each_passes_after, test_rules}
+use Rattle.meaning_reached.specs.class_rules.Expressions.{then_checked}
+use Rattle.meaning_reached.specs.class_rules.Statements.{verdict_passed, required, in_turn, each_passes, each_passes_after, test_rules}
 use Rattle.meaning_reached.specs.class_rules.Statements.{local_rules, construct_rules, with_local, with_object, argument_known}
 use Rattle.meaning_reached.specs.class_rules.Statements.{argument_new, arguments_fit, plain_receiver, receiver_class, slot_rules}
 use Rattle.meaning_reached.specs.class_rules.Statements.{call_rules, check_statement, check_statements}
@@ -44,7 +44,7 @@ module _ (program : Source) (table : Table) (class : ℕ) where
   calls_same : (locals : Locals) (at : ℕ) (receiver : Option Lvalue) (method : Ident) (args : List Ident)
       → call_rules there locals at receiver method args ≡ call_rules here locals at receiver method args
   calls_same locals at receiver method args =
-      ap (λ k. and_then (receiver_class here locals receiver) k)
+      ap (λ k. then_checked (receiver_class here locals receiver) k)
       (fun_ext (λ own. slots_same locals at receiver method args own (slot_in table own method.text)))
 
   mutual
@@ -76,8 +76,8 @@ module _ (program : Source) (table : Table) (class : ℕ) where
         ap (λ r. in_turn r (check_statements there locals b)) (statement_same locals s)
         ∙ ap (in_turn (check_statement here locals s)) (statements_same locals b)
 
-  method_passes : (method : Procedure) → check_method here method ≡ passed
-      → check_method there (inverse_procedure method) ≡ passed
+  method_passes : (method : Procedure) → check_method here method ≡ verdict_passed
+      → check_method there (inverse_procedure method) ≡ verdict_passed
   method_passes method h =
       let locals = with_parameters here [] method.params in
       let both = both_passed (each_passes_after parameter_new [] method.params)
@@ -89,8 +89,8 @@ module _ (program : Source) (table : Table) (class : ℕ) where
       ∙ ap (check_statements here locals) (turned_inverse method.body)
       ∙ inverse_checks here locals method.body both.1)
 
-  methods_pass : (methods : List Procedure) → each_passes (check_method here) methods ≡ passed
-      → each_passes (check_method there) (map inverse_procedure methods) ≡ passed
+  methods_pass : (methods : List Procedure) → each_passes (check_method here) methods ≡ verdict_passed
+      → each_passes (check_method there) (map inverse_procedure methods) ≡ verdict_passed
   methods_pass [] h = refl
   methods_pass (method ∷ methods) h =
       let both = both_passed (check_method here method) (each_passes (check_method here) methods) h in
@@ -98,8 +98,8 @@ module _ (program : Source) (table : Table) (class : ℕ) where
       (methods_pass methods both.1)
 
 classes_pass : (program : Source) (table : Table) (number : ℕ) (classes : List ClassText)
-    → check_classes program table number classes ≡ passed
-    → check_classes (inverse_program program) table number (map inverse_class classes) ≡ passed
+    → check_classes program table number classes ≡ verdict_passed
+    → check_classes (inverse_program program) table number (map inverse_class classes) ≡ verdict_passed
 classes_pass program table number [] h = refl
 classes_pass program table number (class ∷ classes) h =
     let both = both_passed (check_class program table number class) (check_classes program table (number + 1) classes) h

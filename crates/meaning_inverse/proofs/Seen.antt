@@ -22,7 +22,7 @@ use Rattle.meaning_reached.specs.roopl_semantics.Value.{Cell, Slot, Part, slot_o
 use Rattle.meaning_reached.specs.roopl_semantics.Value.{with_value, read, written, variable_value, element_cell, element_of, read_cell}
 use Rattle.meaning_reached.specs.roopl_semantics.Value.{combined, value as value_in, cell_of, INDEX, evaluated, found}
 use Rattle.meaning_reached.specs.roopl_semantics.Elements.{same_array, is_among, share_array}
-use Rattle.meaning_reached.specs.roopl_semantics.Execution.{holds, opened, closed, rest_of, counted}
+use Rattle.meaning_reached.specs.roopl_semantics.Execution.{holds, opened, closed, rest_of, count_changed}
 use Rattle.meaning_reached.specs.roopl_semantics.Agreement.{renamed, renamed_object}
 use Rattle.meaning_inverse.specs.StatesAgree.{renamed_binding}
 use Rattle.meaning_reached.specs.roopl_semantics.Laws.{book_of, block_in}
@@ -406,8 +406,8 @@ module _ (h : ℕ) (f : Names) (first second : State) (s : Sees h f first second
   written_seen (Part name i) v = changed_seen name (with_cell i v) (with_cell i (renamed f.there v)) (λ o. refl)
       (λ o. refl) (λ o. ap (λ cells. record o { cells = cells }) (set_renamed f.there o.cells i v))
 
-  pub counted_seen : (change : ℕ → ℕ) (name : ℕ) → Sees h f (counted change first name)
-      (counted change second (f.there name))
+  pub counted_seen : (change : ℕ → ℕ) (name : ℕ) → Sees h f (count_changed change first name)
+      (count_changed change second (f.there name))
   counted_seen change name = changed_seen name (λ o. record o { count = change o.count })
       (λ o. record o { count = change o.count }) (λ o. refl) (λ o. refl) (λ o. refl)
 

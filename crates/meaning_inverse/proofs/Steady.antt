@@ -6,7 +6,7 @@ use Rattle.meaning_reached.specs.rpp_tree.Tree.{Expression, Number, Null, Variab
 use Rattle.meaning_reached.specs.class_rules.declared.kind.Kind.{Kind}
 use Rattle.meaning_reached.specs.class_rules.Scope.{Typing, Locals, kind_in}
 use Rattle.meaning_reached.specs.class_rules.Refusal.{unknown_name, not_an_array}
-use Rattle.meaning_reached.specs.class_rules.Expressions.{element_kind, element_of as element_type, variable_type, type_of, occurs}
+use Rattle.meaning_reached.specs.class_rules.Expressions.{element_kind, element_kind_of as element_type, variable_type, type_of, occurs}
 use Rattle.meaning_reached.specs.rpp_tree.declared.tree.Ident.{Ident}
 use Rattle.meaning_reached.specs.roopl_semantics.Store.{Value, Word, Nil, Name, State, number_of, same_value, object_at}
 use Rattle.meaning_reached.specs.roopl_semantics.Elements.{elements, index_elements, own_element, same_array, is_among, share_array}

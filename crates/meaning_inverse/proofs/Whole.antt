@@ -10,7 +10,7 @@ use Rattle.meaning_reached.specs.roopl_semantics.Execution.{Setting, statement, 
 use Rattle.meaning_reached.specs.roopl_semantics.Source.{source}
 use Rattle.meaning_reached.specs.roopl_semantics.Agreement.{renamed, renamed_object}
 use Rattle.meaning_inverse.specs.StatesAgree.{renamed_binding, AgreeStates}
-use Rattle.meaning_inverse.specs.InverseLaws.{LeadsBack}
+use Rattle.meaning_inverse.specs.InverseLaws.{InverseLeadsBack}
 use Rattle.meaning_inverse.proofs.Runs.{Runs, split, done_result, done_cost, runs_end, runs_then, runs_joined}
 use Rattle.meaning_inverse.proofs.Later.{IsSound, Later, statement_later, exec_later}
 use Rattle.meaning_inverse.proofs.Seen.{Names, Sees}
@@ -174,7 +174,7 @@ module _ (setting : Setting) (G : Ground setting) where
   -- the inverse of a block leads back from where the block led, at the same cost, to a state that
   -- agrees with the start
   pub block_leads_back : (C : G.Context) (n : ℕ) (body : Statements) (a b : State) (c : ℕ) → G.Typed C body → G.Good C a
-      → exec setting n body a ≡ Done b c → LeadsBack setting body a b c
+      → exec setting n body a ≡ Done b c → InverseLeadsBack setting body a b c
   block_leads_back C n body a b c typed good e =
       let later = exec_later setting n body a b c (G.sound C a good) e in
       let back = undo_block n C body a b c typed good e same_map b (sees_itself setting.limits.heap b later.sound) in

@@ -6,7 +6,7 @@ use Rattle.meaning_reached.specs.rpp_words.declared.input.Limits.{Limits}
 use Rattle.meaning_reached.specs.rpp_tree.Tree.{Statements, Source}
 use Rattle.meaning_reached.specs.class_rules.Scope.{Locals}
 use Rattle.meaning_reached.specs.class_rules.Table.{table_of}
-use Rattle.meaning_reached.specs.class_rules.Statements.{passed, check_statements}
+use Rattle.meaning_reached.specs.class_rules.Statements.{verdict_passed, check_statements}
 use Rattle.meaning_reached.specs.class_rules.Program.{IsAccepted, setting_in}
 use Rattle.meaning_reached.specs.inverse_rules.Inverse.{inverse}
 use Rattle.meaning_reached.specs.roopl_semantics.Run.{Done}
@@ -22,7 +22,7 @@ use Rattle.meaning_inverse.specs.ArrayLengths.{ArraysHaveElements}
 
 -- the inverse of a block leads back from its end, at the same cost, to a state that agrees with its
 -- start
-pub record LeadsBack (setting : Setting) (body : Statements) (start end : State) (cost : ℕ) : Type 0
+pub record InverseLeadsBack (setting : Setting) (body : Statements) (start end : State) (cost : ℕ) : Type 0
   where
     pub back : State
     pub runs : exec setting cost (inverse body) end ≡ Done back cost
@@ -35,13 +35,13 @@ InverseLaw =
     (cost : ℕ)
     → IsAccepted program → IsLimits limits → IsValid program input
     → source program limits input fuel ≡ Done end cost
-    → LeadsBack (record { program = program; limits = limits }) (main_body program)
+    → InverseLeadsBack (record { program = program; limits = limits }) (main_body program)
     (starting program input) end cost
 
 -- it leads back to a state with the report of its start
 pub record ShowsBack (setting : Setting) (body : Statements) (start end : State) (cost : ℕ) : Type 0
   where
-    pub leads : LeadsBack setting body start end cost
+    pub leads : InverseLeadsBack setting body start end cost
     pub shown : report setting.program leads.back.store ≡ report setting.program start.store
 
 -- run back, a program prints what it would have printed at its start
@@ -62,12 +62,12 @@ BlocksUndo =
     (body : Statements) (start end : State) (cost : ℕ)
     → IsAccepted program
     → class < length program.classes → MeansSame locals shape
-    → check_statements (setting_in program (table_of program) class) locals body ≡ passed
+    → check_statements (setting_in program (table_of program) class) locals body ≡ verdict_passed
     → IsPlain body
     → Sound (record { program = program; limits = limits }) extra shape class start
     → ArraysHaveElements start.store
     → exec (record { program = program; limits = limits }) fuel body start ≡ Done end cost
-    → LeadsBack (record { program = program; limits = limits }) body start end cost
+    → InverseLeadsBack (record { program = program; limits = limits }) body start end cost
 
 -- what `BlocksUndo` asks of arrays holds at the start of a run
 abbrev pub StartHasElements : Type 0
@@ -82,7 +82,7 @@ ArraysKeepElements =
     (body : Statements) (start end : State) (cost : ℕ)
     → IsAccepted program
     → class < length program.classes → MeansSame locals shape
-    → check_statements (setting_in program (table_of program) class) locals body ≡ passed
+    → check_statements (setting_in program (table_of program) class) locals body ≡ verdict_passed
     → IsPlain body
     → Sound (record { program = program; limits = limits }) extra shape class start
     → ArraysHaveElements start.store

@@ -62,7 +62,7 @@ names_nothing (Nil ∷ cells) = names_nothing cells
 names_nothing (Name n ∷ cells) = false
 
 -- the main object's fields are those of an input
-pub record AreInput (program : Source) (cells : List Value) : Type 0 where
+pub record AreInputCells (program : Source) (cells : List Value) : Type 0 where
   pub valid : IsValid program (field_words 0 cells)
   pub fields : cells ≡ (main_object program (field_words 0 cells)).cells
 
@@ -74,7 +74,7 @@ FinalFieldsAreInput =
     → IsAccepted program → IsLimits limits → IsValid program input
     → source program limits input fuel ≡ Done end cost
     → names_nothing (object_at end.store main_name).cells ≡ true
-    → AreInput program (object_at end.store main_name).cells
+    → AreInputCells program (object_at end.store main_name).cells
 
 -- the inverse program, run with an input, ends at this cost in a state that agrees with the start,
 -- and its report is the start's

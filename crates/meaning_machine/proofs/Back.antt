@@ -10,7 +10,7 @@ use Rattle.meaning_points.specs.roopl_semantics.Execution.{Setting, holds, bound
 use Rattle.meaning_points.specs.roopl_semantics.Execution.{LOOP, statement}
 use Rattle.meaning_machine.specs.Machine.{Config, Open, Chosen, First, Again, past_it, inside, turned_to}
 use Rattle.meaning_machine.specs.Machine.{turned_first, left, simply, entered, begun}
-use Rattle.meaning_machine.specs.MachineLaws.{before}
+use Rattle.meaning_machine.specs.MachineLaws.{config_before}
 use Rattle.meaning_machine.specs.Turned.{each_undone, turned_open, turn, unwound, StepsBack}
 use Rattle.meaning_points.proofs.inverse_rules_laws.Inverses.{joined-end, joined_assoc}
 
@@ -38,11 +38,11 @@ module _ (setting : Setting) where
       (taken other : Statements) (after : Expression) (v : Value) (c : ℕ)
       → evaluated setting.program test st ≡ Done v c
       → let s : Statement = If at test taken other after in
-      let x : Config = before past (Then s rest) params around st in
+      let x : Config = config_before past (Then s rest) params around st in
       StepsBack setting x (inside x s rest (Chosen (holds v) test after) (if holds v then taken else other) st)
   if_entered past rest params around st at test taken other after v c e =
       let s : Statement = If at test taken other after in
-      let x : Config = before past (Then s rest) params around st in
+      let x : Config = config_before past (Then s rest) params around st in
       record {
         cost = c + (0 + 0);
         steps =
@@ -62,7 +62,7 @@ module _ (setting : Setting) where
         rest = rest;
         part = Chosen side test after;
       } in
-      StepsBack setting (before p End params (o ∷ around) st) (left o around params st)
+      StepsBack setting (config_before p End params (o ∷ around) st) (left o around params st)
   if_left p past rest params around st at test taken other after side w c placed e stays =
       let o : Open = record {
         past = past;
@@ -104,10 +104,10 @@ module _ (setting : Setting) where
 
     -- a loop is entered
     pub loop_entered : (v : Value) (c : ℕ) → evaluated setting.program entry st ≡ Done v c → holds v ≡ true
-        → let x : Config = before past (Then again_and_again rest) params around st in
+        → let x : Config = config_before past (Then again_and_again rest) params around st in
         StepsBack setting x (inside x again_and_again rest (First entry first again exit) first st)
     loop_entered v c e h =
-        let x : Config = before past (Then again_and_again rest) params around st in
+        let x : Config = config_before past (Then again_and_again rest) params around st in
         let y : Config = inside x again_and_again rest (First entry first again exit) first st in
         let f : Bool → Config = turned_first setting (turn y) (turned_open one) (map turned_open around)
         (Again exit (inverse first) (inverse again) entry) (inverse again) in
@@ -116,7 +116,7 @@ module _ (setting : Setting) where
     -- a loop is left
     pub loop_left : (p : Statements) (v : Value) (c : ℕ) → unwound p End ≡ first
         → evaluated setting.program exit st ≡ Done v c → holds v ≡ true
-        → StepsBack setting (before p End params (one ∷ around) st) (left one around params st)
+        → StepsBack setting (config_before p End params (one ∷ around) st) (left one around params st)
     loop_left p v c placed e h =
         let y : Config = left one around params st in
         let into : Statements → Config = λ block. inside (turn y) loop_back (each_undone past)
@@ -134,7 +134,7 @@ module _ (setting : Setting) where
     -- from the first part of an iteration to the second
     pub loop_again : (p : Statements) (v : Value) (c : ℕ) → unwound p End ≡ first
         → evaluated setting.program exit st ≡ Done v c → holds v ≡ false
-        → let x : Config = before p End params (one ∷ around) st in
+        → let x : Config = config_before p End params (one ∷ around) st in
         StepsBack setting x (turned_to x one around (Again entry first again exit) again)
     loop_again p v c placed e h =
         let into : Statements → Config = λ block. record {
@@ -155,10 +155,10 @@ module _ (setting : Setting) where
     -- from the second part of an iteration to the next iteration
     pub loop_turned : (p : Statements) (v : Value) (c : ℕ) → unwound p End ≡ again
         → evaluated setting.program entry st ≡ Done v c → holds v ≡ false
-        → let x : Config = before p End params (two ∷ around) st in
+        → let x : Config = config_before p End params (two ∷ around) st in
         StepsBack setting x (turned_to x two around (First entry first again exit) first)
     loop_turned p v c placed e h =
-        let x : Config = before p End params (two ∷ around) st in
+        let x : Config = config_before p End params (two ∷ around) st in
         let y : Config = turned_to x two around (First entry first again exit) first in
         let into : Statements → Config = λ block. record {
           past = End;
@@ -182,10 +182,10 @@ module _ (setting : Setting) where
       → ((x : Config) (rest : Statements) → begun setting x (inverse_statement s) rest
       ≡ simply setting x (inverse_statement s) rest)
       → statement setting 0 (λ body st. More) (inverse_statement s) end ≡ Done st c
-      → StepsBack setting (before past (Then s rest) params around st) (before (Then s past) rest params around end)
+      → StepsBack setting (config_before past (Then s rest) params around st) (config_before (Then s past) rest params around end)
   simple_done s past rest params around st end c simple e =
-      let x : Config = before past (Then s rest) params around st in
-      let y : Config = before (Then s past) rest params around end in
+      let x : Config = config_before past (Then s rest) params around st in
+      let y : Config = config_before (Then s past) rest params around end in
       record {
         cost = 1 + (c + 0);
         steps =
@@ -200,13 +200,13 @@ module _ (setting : Setting) where
       → (let caller : State = moved_out (receiver ++ args) st in
       moved_back (receiver ++ args) (map (read st) receiver
       ++ map (λ binding. binding.value) (bound method.params (map (read st) args))) caller ≡ Done st c)
-      → let x : Config = before past (Then s rest) params around st in
+      → let x : Config = config_before past (Then s rest) params around st in
       StepsBack setting x (entered setting x s rest back method self receiver args)
   call_entered s past rest params around st back method self receiver args c e =
-      let x : Config = before past (Then s rest) params around st in
+      let x : Config = config_before past (Then s rest) params around st in
       record {
         cost = c + 0;
         steps = ap (λ q. q >>= (λ st. give
-            (before (Then (inverse_statement s) (each_undone rest)) (each_undone past) params
+            (config_before (Then (inverse_statement s) (each_undone rest)) (each_undone past) params
             (map turned_open around) st))) e;
       }

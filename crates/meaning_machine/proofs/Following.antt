@@ -25,11 +25,11 @@ use Rattle.meaning_points.specs.roopl_semantics.Execution.{new_array, delete_arr
 use Rattle.meaning_points.specs.roopl_semantics.Execution.{element_name, element_call, FI, LOOP, DELOCAL}
 use Rattle.meaning_points.specs.roopl_semantics.Execution.{TOO_DEEP, TOUCHED, turns, turn_end, with_local, invoked}
 use Rattle.meaning_points.specs.roopl_semantics.Execution.{statement, exec}
-use Rattle.meaning_points.specs.Points.{Point, behind, begins, called_points, local_points, again_points, turn_points}
+use Rattle.meaning_points.specs.Points.{Point, points_behind, begin_points, called_points, local_points, again_points, turn_points}
 use Rattle.meaning_points.specs.Points.{call_points, inner_points, points}
 use Rattle.meaning_machine.specs.Machine.{Config, Open, Chosen, First, Again, Holding, past_it, turned_first}
 use Rattle.meaning_machine.specs.Machine.{held_local, entered, called, begun, walk}
-use Rattle.meaning_machine.specs.MachineLaws.{MachineIsMeaning, Follows, before, after}
+use Rattle.meaning_machine.specs.MachineLaws.{MachineIsMeaning, MachineFollows, config_before, config_after}
 use Rattle.meaning_machine.proofs.Steps.{after_zero, IsSure, sure_after, sure_then, sure_done, sure_given, Goes, spent}
 use Rattle.meaning_machine.proofs.Steps.{fewer, over, over_silently, over_value, go, stay, waits, at_once, on}
 use Rattle.meaning_machine.proofs.Steps.{on_silently}
@@ -54,7 +54,7 @@ sure_moved (cell ∷ cells) (v ∷ values) st =
 
 module _ (setting : Setting) (n : ℕ)
     (block : (past b : Statements) (params : ℕ) (around : List Open) (st : State)
-    → Goes setting n (give (before past b params around st)) (after past b params around) (exec setting n b st)
+    → Goes setting n (give (config_before past b params around st)) (config_after past b params around) (exec setting n b st)
     (points setting n params b st)) where
   sure_value : (e : Expression) (st : State) → IsSure (evaluated setting.program e st)
   sure_value e st = sure_given (nodes e) (value_in setting.program st e)
@@ -68,9 +68,9 @@ module _ (setting : Setting) (n : ℕ)
   local x s rest name value body end_value =
       over setting n (evaluated setting.program value x.state) _ _ _ _ (sure_value value x.state) (λ v.
       let o : Open = record { past = x.past; here = s; rest = rest; part = Holding name value end_value } in
-      on_silently setting n _ (after End body x.params (o ∷ x.around)) _ (exec setting n body (opened name v x.state)) _
+      on_silently setting n _ (config_after End body x.params (o ∷ x.around)) _ (exec setting n body (opened name v x.state)) _
       _ (block End body x.params (o ∷ x.around) (opened name v x.state)) (λ end.
-      go setting n (after End body x.params (o ∷ x.around) end) _ _ []
+      go setting n (config_after End body x.params (o ∷ x.around) end) _ _ []
       (over_silently setting n (evaluated setting.program end_value end) _ _ _ (sure_value end_value end) (λ w.
       over_silently setting n (fault_if DELOCAL (not (same_value (read end (Slot 0)) w))) _ _ _
       (sure_fault_if _ _) (λ u.
@@ -84,9 +84,9 @@ module _ (setting : Setting) (n : ℕ)
       (called_points setting (points setting n) back m self receiver args x.state)
   method x s rest back m self receiver args =
       let e : Config = entered setting x s rest back m self receiver args in
-      on_silently setting n _ (after End e.rest e.params e.around) _ (exec setting n e.rest e.state) _ _
+      on_silently setting n _ (config_after End e.rest e.params e.around) _ (exec setting n e.rest e.state) _ _
       (block End e.rest e.params e.around e.state) (λ end.
-      go setting n (after End e.rest e.params e.around end) _ _ []
+      go setting n (config_after End e.rest e.params e.around end) _ _ []
       (at_once setting n (past_it x s rest) _ (sure_moved (receiver ++ args) _ _)))
 
   call : (x : Config) (s : Statement) (rest : Statements) (at : ℕ) (back : Bool) (receiver : Option Lvalue)
@@ -122,31 +122,31 @@ module _ (setting : Setting) (n : ℕ)
     two = record { past = x.past; here = s; rest = rest; part = Again entry first again exit }
 
     second : (m : ℕ) → m ≤ n → (more : State → Run State) (list : State → List Point)
-        → ((st : State) → Goes setting m (give (before End first x.params (one ∷ x.around) st)) (past_it x s rest)
+        → ((st : State) → Goes setting m (give (config_before End first x.params (one ∷ x.around) st)) (past_it x s rest)
         (more st) (list st))
         → (b : Bool) (st : State)
-        → Goes setting m (give (turned_first setting (after End first x.params (one ∷ x.around) st) one x.around
+        → Goes setting m (give (turned_first setting (config_after End first x.params (one ∷ x.around) st) one x.around
         (Again entry first again exit) again b)) (past_it x s rest)
         (turn_end setting (exec setting n) entry again more b st)
         (again_points setting (exec setting n) (points setting n) x.params entry again list b st)
     second m le more list goes true st = stay setting m (past_it x s rest) st
     second m le more list goes false st =
-        on setting m _ (after End again x.params (two ∷ x.around)) _ (exec setting n again st) _ _ _
+        on setting m _ (config_after End again x.params (two ∷ x.around)) _ (exec setting n again st) _ _ _
         (fewer setting m n _ _ (exec setting n again st) _ le (block End again x.params (two ∷ x.around) st)) (λ end.
-        go setting m (after End again x.params (two ∷ x.around) end) _ _ _
+        go setting m (config_after End again x.params (two ∷ x.around) end) _ _ _
         (over setting m (evaluated setting.program entry end) _ _ _ _ (sure_value entry end) (λ v.
         over setting m (fault_if LOOP (holds v)) _ _ _ _ (sure_fault_if _ _) (λ u. goes end))))
 
     loop : (m : ℕ) → m ≤ n → (st : State)
-        → Goes setting m (give (before End first x.params (one ∷ x.around) st)) (past_it x s rest)
+        → Goes setting m (give (config_before End first x.params (one ∷ x.around) st)) (past_it x s rest)
         (turns setting m (exec setting n) entry first again exit st)
         (turn_points setting m (exec setting n) (points setting n) x.params entry first again exit st)
     loop zero le st = waits setting {A = State} _ (past_it x s rest)
     loop (suc m) le st =
-        on setting (suc m) _ (after End first x.params (one ∷ x.around)) _ (exec setting n first st) _ _ _
+        on setting (suc m) _ (config_after End first x.params (one ∷ x.around)) _ (exec setting n first st) _ _ _
         (fewer setting (suc m) n _ _ (exec setting n first st) _ le (block End first x.params (one ∷ x.around) st))
         (λ end.
-        go setting (suc m) (after End first x.params (one ∷ x.around) end) _ _ _
+        go setting (suc m) (config_after End first x.params (one ∷ x.around) end) _ _ _
         (over_value setting (suc m) m (nodes exit) (value_in setting.program end exit) _ _ _ _
         (let p = some_nodes exit in omega arith) (λ v.
         second m (omega arith) (turns setting m (exec setting n) entry first again exit)
@@ -273,9 +273,9 @@ module _ (setting : Setting) (n : ℕ)
       let s : Statement = If at test taken other end_test in
       let body : Statements = if holds v then taken else other in
       let o : Open = record { past = x.past; here = s; rest = rest; part = Chosen (holds v) test end_test } in
-      on_silently setting n _ (after End body x.params (o ∷ x.around)) _ (exec setting n body x.state) _ _
+      on_silently setting n _ (config_after End body x.params (o ∷ x.around)) _ (exec setting n body x.state) _ _
       (block End body x.params (o ∷ x.around) x.state) (λ end.
-      go setting n (after End body x.params (o ∷ x.around) end) _ _ []
+      go setting n (config_after End body x.params (o ∷ x.around) end) _ _ []
       (over_silently setting n (evaluated setting.program end_test end) _ _ _ (sure_value end_test end) (λ w.
       over_silently setting n (fault_if FI (if holds v then not (holds w) else holds w)) _ _ _ (sure_fault_if _ _)
       (λ u.
@@ -312,23 +312,23 @@ module _ (setting : Setting) (n : ℕ)
 -- ---- blocks
 
 block : (setting : Setting) (n : ℕ) (past b : Statements) (params : ℕ) (around : List Open) (st : State)
-    → Goes setting n (give (before past b params around st)) (after past b params around) (exec setting n b st)
+    → Goes setting n (give (config_before past b params around st)) (config_after past b params around) (exec setting n b st)
     (points setting n params b st)
-block setting n past End params around st = stay setting n (after past End params around) st
+block setting n past End params around st = stay setting n (config_after past End params around) st
 block setting zero past (Then first rest) params around st =
-    waits setting {A = State} _ (after past (Then first rest) params around)
+    waits setting {A = State} _ (config_after past (Then first rest) params around)
 block setting (suc n) past (Then first rest) params around st =
-    let x : Config = before past (Then first rest) params around st in
+    let x : Config = config_before past (Then first rest) params around st in
     let ps : List Point = inner_points setting n (exec setting n) (points setting n) params first st in
-    let qs : List Point = behind (statement setting n (exec setting n) first st) (points setting n params rest) in
-    let P : List Point → Type 0 = λ l. Goes setting (suc n) (give x) (after past (Then first rest) params around)
+    let qs : List Point = points_behind (statement setting n (exec setting n) first st) (points setting n params rest) in
+    let P : List Point → Type 0 = λ l. Goes setting (suc n) (give x) (config_after past (Then first rest) params around)
     (exec setting (suc n) (Then first rest) st) l in
-    subst P (sym (append_assoc (begins params first st) ps qs))
-    (go setting (suc n) x (after past (Then first rest) params around) (exec setting (suc n) (Then first rest) st)
+    subst P (sym (append_assoc (begin_points params first st) ps qs))
+    (go setting (suc n) x (config_after past (Then first rest) params around) (exec setting (suc n) (Then first rest) st)
     (ps ++ qs)
-    (spent setting (suc n) n 1 (begun setting x first rest) (after past (Then first rest) params around)
+    (spent setting (suc n) n 1 (begun setting x first rest) (config_after past (Then first rest) params around)
     (statement setting n (exec setting n) first st >>= exec setting n rest) (ps ++ qs) (omega arith)
-    (on setting n (begun setting x first rest) (past_it x first rest) (after past (Then first rest) params around)
+    (on setting n (begun setting x first rest) (past_it x first rest) (config_after past (Then first rest) params around)
     (statement setting n (exec setting n) first st) (exec setting n rest) ps (points setting n params rest)
     (done setting n (block setting n) x first rest)
     (λ end. block setting n (Then first past) rest params around end))))
@@ -336,7 +336,7 @@ block setting (suc n) past (Then first rest) params around st =
 -- ---- the law
 
 followed_by : (setting : Setting) (bound : ℕ) (x : Config) (y : State → Config) (r : Run State) (ps : List Point)
-    → Goes setting bound (give x) y r ps → Follows setting bound x y r ps
+    → Goes setting bound (give x) y r ps → MachineFollows setting bound x y r ps
 followed_by setting bound x y (Done end cost) ps g = record
     { steps = g.steps; walks = sym (after_zero (walk setting g.steps x)) ∙ g.walks; points = g.points }
 followed_by setting bound x y (Fault code cost) ps g =
@@ -354,5 +354,5 @@ followed_by setting bound x y More ps g =
 
 pub followed : MachineIsMeaning
 followed setting bound params past body around st =
-    followed_by setting bound _ (after past body params around) (exec setting bound body st)
+    followed_by setting bound _ (config_after past body params around) (exec setting bound body st)
     (points setting bound params body st) (block setting bound past body params around st)

@@ -14,8 +14,8 @@ use Rattle.meaning_points.proofs.roopl_semantics_laws.MoreFuel.{cost_or_zero}
 use Rattle.meaning_points.specs.Points.{points}
 use Rattle.meaning_points.specs.Trail.{trail}
 use Rattle.meaning_machine.specs.Machine.{Config, closing, stepped, next, walk}
-use Rattle.meaning_machine.specs.MachineLaws.{Arrives, Breaks, Follows}
-use Rattle.meaning_machine.specs.SourceLaws.{set_for, start_of, end_of, Exceeds, Outlasts, SourceIsMachine}
+use Rattle.meaning_machine.specs.MachineLaws.{Arrives, Breaks, MachineFollows}
+use Rattle.meaning_machine.specs.SourceLaws.{set_for, start_config, end_config, Exceeds, Outlasts, SourceIsMachine}
 use Rattle.meaning_machine.proofs.Steps.{plus, after_zero, walk_plus}
 use Rattle.meaning_machine.proofs.Following.{followed}
 
@@ -129,7 +129,7 @@ module _ (program : Source) (limits : Limits) (input : List FieldWord) (fuel : �
   here = set_for program limits
 
   abbrev start : Config
-  start = start_of program input
+  start = start_config program input
 
   abbrev first : State
   first = starting program input
@@ -137,18 +137,18 @@ module _ (program : Source) (limits : Limits) (input : List FieldWord) (fuel : �
   abbrev pub run : ℕ → Run State
   run n = exec here n (main_body program) first
 
-  pub follows : (n : ℕ) → Follows here n start (end_of program) (run n) (points here n 0 (main_body program) first)
+  pub follows : (n : ℕ) → MachineFollows here n start (end_config program) (run n) (points here n 0 (main_body program) first)
   follows n = followed here n 0 End (main_body program) [] first
 
   pub follows_as : (n : ℕ) (r : Run State) → run n ≡ r
-      → Follows here n start (end_of program) r (points here n 0 (main_body program) first)
+      → MachineFollows here n start (end_config program) r (points here n 0 (main_body program) first)
   follows_as n r e =
-      let P : Run State → Type 0 = λ r. Follows here n start (end_of program) r
+      let P : Run State → Type 0 = λ r. MachineFollows here n start (end_config program) r
       (points here n 0 (main_body program) first) in
       subst P e (follows n)
 
   done : (end : State) (cost : ℕ) → source program limits input fuel ≡ Done end cost
-      → Arrives here start (end_of program end) cost (trail program limits input fuel).points
+      → Arrives here start (end_config program end) cost (trail program limits input fuel).points
   done end cost e = follows_as fuel (Done end cost) (within_done fuel (run fuel) end cost e).is
 
   fault : (code cost : ℕ) → source program limits input fuel ≡ Fault code cost
@@ -170,7 +170,7 @@ module _ (program : Source) (limits : Limits) (input : List FieldWord) (fuel : �
   outlasts steps r e h = record { steps = steps; exceeds = subst (Exceeds fuel) (sym e) h }
 
   more_by : (r : Run State) → run (suc fuel) ≡ r
-      → Follows here (suc fuel) start (end_of program) r (points here (suc fuel) 0 (main_body program) first)
+      → MachineFollows here (suc fuel) start (end_config program) r (points here (suc fuel) 0 (main_body program) first)
       → source program limits input fuel ≡ More → Outlasts here start fuel
   more_by (Done end cost) is f e = elim (within_or_above cost fuel) [
     | inl h ↦ let no : Done end cost ≡ More = sym (done_sooner end cost is h) ∙ e in cc
@@ -195,7 +195,7 @@ module _ (program : Source) (limits : Limits) (input : List FieldWord) (fuel : �
       (within_end here fuel m k start (ends_at here m start r e one) (subst (Exceeds fuel) (sym d) h))
 
   over_by : (r : Run State) → run (suc fuel) ≡ r
-      → Follows here (suc fuel) start (end_of program) r (points here (suc fuel) 0 (main_body program) first)
+      → MachineFollows here (suc fuel) start (end_config program) r (points here (suc fuel) 0 (main_body program) first)
       → (steps : ℕ) (to : Config) (cost : ℕ) → walk here steps start ≡ Done to cost → to.rest ≡ End
       → to.around ≡ [] → cost ≤ fuel → source program limits input fuel ≡ Done to.state cost
   over_by (Done last c) is f steps to cost e rest around h =
@@ -215,7 +215,7 @@ module _ (program : Source) (limits : Limits) (input : List FieldWord) (fuel : �
   over = over_by (run (suc fuel)) refl (follows (suc fuel))
 
   fault_by : (r : Run State) → run (suc fuel) ≡ r
-      → Follows here (suc fuel) start (end_of program) r (points here (suc fuel) 0 (main_body program) first)
+      → MachineFollows here (suc fuel) start (end_config program) r (points here (suc fuel) 0 (main_body program) first)
       → (steps code cost : ℕ) → walk here steps start ≡ Fault code cost → cost ≤ fuel
       → source program limits input fuel ≡ Fault code cost
   fault_by (Done last c) is f steps code cost e h =
@@ -259,7 +259,7 @@ module _ (program : Source) (limits : Limits) (input : List FieldWord) (fuel : �
     done = done;
     fault = fault;
     more = more_by (run (suc fuel)) refl (follows (suc fuel));
-    done_only = λ steps end cost e h. over steps (end_of program end) cost e refl refl h;
+    done_only = λ steps end cost e h. over steps (end_config program end) cost e refl refl h;
     fault_only = fault_by (run (suc fuel)) refl (follows (suc fuel));
     more_only = more_only_by (source program limits input fuel) refl;
     over = over;

@@ -4,7 +4,7 @@ use Rattle.std.proofs.Common.{List, [], ◌++◌}
 use Rattle.std.specs.Prelude.{Result, Ok, Err}
 use Rattle.meaning_points.specs.roopl_semantics.Run.{Run, Done, Fault, More, after_cost, ◌>>=◌, give, given}
 use Rattle.meaning_points.specs.roopl_semantics.Execution.{Setting}
-use Rattle.meaning_points.specs.Points.{Point, behind}
+use Rattle.meaning_points.specs.Points.{Point, points_behind}
 use Rattle.meaning_machine.specs.Machine.{Config, next, walk, seen, point_of}
 
 -- ---- runs
@@ -36,23 +36,23 @@ then_same More f g h = refl
 
 -- ---- lists of trace points after runs
 
-behind_after : {A : Type 0} (c : ℕ) (r : Run A) (f : A → List Point) → behind (after_cost c r) f ≡ behind r f
+behind_after : {A : Type 0} (c : ℕ) (r : Run A) (f : A → List Point) → points_behind (after_cost c r) f ≡ points_behind r f
 behind_after c (Done x d) f = refl
 behind_after c (Fault code d) f = refl
 behind_after c More f = refl
 
-behind_same : {A : Type 0} (r : Run A) (f g : A → List Point) → ((a : A) → f a ≡ g a) → behind r f ≡ behind r g
+behind_same : {A : Type 0} (r : Run A) (f g : A → List Point) → ((a : A) → f a ≡ g a) → points_behind r f ≡ points_behind r g
 behind_same (Done x d) f g h = h x
 behind_same (Fault code d) f g h = refl
 behind_same More f g h = refl
 
 behind_both : {A B : Type 0} (r : Run A) (f : A → List Point) (g : A → Run B) (h : B → List Point)
-    → behind r (λ a. f a ++ behind (g a) h) ≡ behind r f ++ behind (r >>= g) h
+    → points_behind r (λ a. f a ++ points_behind (g a) h) ≡ points_behind r f ++ points_behind (r >>= g) h
 behind_both (Done x c) f g h = ap (λ l. f x ++ l) (sym (behind_after c (g x) h))
 behind_both (Fault code c) f g h = refl
 behind_both More f g h = refl
 
-pub behind_nothing : {A : Type 0} (r : Run A) → behind r (λ a. []) ≡ []
+pub behind_nothing : {A : Type 0} (r : Run A) → points_behind r (λ a. []) ≡ []
 behind_nothing (Done x c) = refl
 behind_nothing (Fault code c) = refl
 behind_nothing More = refl
@@ -98,24 +98,24 @@ module _ (setting : Setting) where
       ∙ sym (then_then (next setting x) (walk setting a) (walk setting b))
 
   pub seen_plus : (a b : ℕ) (x : Config) → seen setting (plus a b) x
-      ≡ seen setting a x ++ behind (walk setting a x) (seen setting b)
+      ≡ seen setting a x ++ points_behind (walk setting a x) (seen setting b)
   seen_plus zero b x = refl
   seen_plus (suc a) b x =
       ap (λ l. point_of setting x.params x.state x.rest ++ l)
       (behind_same (next setting x) (seen setting (plus a b))
-      (λ y. seen setting a y ++ behind (walk setting a y) (seen setting b)) (seen_plus a b)
+      (λ y. seen setting a y ++ points_behind (walk setting a y) (seen setting b)) (seen_plus a b)
       ∙ behind_both (next setting x) (seen setting a) (walk setting a) (seen setting b))
-      ∙ sym (append_assoc (point_of setting x.params x.state x.rest) (behind (next setting x) (seen setting a))
-      (behind (next setting x >>= walk setting a) (seen setting b)))
+      ∙ sym (append_assoc (point_of setting x.params x.state x.rest) (points_behind (next setting x) (seen setting a))
+      (points_behind (next setting x >>= walk setting a) (seen setting b)))
 
   then_walk : (p : Run Config) (a b : ℕ) → (p >>= walk setting (plus a b)) ≡ ((p >>= walk setting a) >>= walk setting b)
   then_walk p a b = then_same p _ (λ y. walk setting a y >>= walk setting b) (walk_plus a b)
       ∙ sym (then_then p (walk setting a) (walk setting b))
 
-  behind_seen : (p : Run Config) (a b : ℕ) → behind p (seen setting (plus a b))
-      ≡ behind p (seen setting a) ++ behind (p >>= walk setting a) (seen setting b)
+  behind_seen : (p : Run Config) (a b : ℕ) → points_behind p (seen setting (plus a b))
+      ≡ points_behind p (seen setting a) ++ points_behind (p >>= walk setting a) (seen setting b)
   behind_seen p a b =
-      behind_same p (seen setting (plus a b)) (λ y. seen setting a y ++ behind (walk setting a y) (seen setting b))
+      behind_same p (seen setting (plus a b)) (λ y. seen setting a y ++ points_behind (walk setting a y) (seen setting b))
       (seen_plus a b)
       ∙ behind_both p (seen setting a) (walk setting a) (seen setting b)
 
@@ -124,12 +124,12 @@ module _ (setting : Setting) where
   pub record Comes (p : Run Config) (y : Config) (cost : ℕ) (ps : List Point) : Type 0 where
     pub steps : ℕ
     pub walks : (p >>= walk setting steps) ≡ Done y cost
-    pub points : behind p (seen setting steps) ≡ ps
+    pub points : points_behind p (seen setting steps) ≡ ps
 
   pub record Faults (p : Run Config) (code cost : ℕ) (ps : List Point) : Type 0 where
     pub steps : ℕ
     pub walks : (p >>= walk setting steps) ≡ Fault code cost
-    pub points : behind p (seen setting steps) ≡ ps
+    pub points : points_behind p (seen setting steps) ≡ ps
 
   pub record Lasts (p : Run Config) (bound : ℕ) (ps : List Point) : Type 0 where
     pub to : Config
@@ -137,7 +137,7 @@ module _ (setting : Setting) where
     pub cost : ℕ
     pub walks : (p >>= walk setting steps) ≡ Done to cost
     pub enough : bound ≤ cost
-    pub points : behind p (seen setting steps) ≡ ps
+    pub points : points_behind p (seen setting steps) ≡ ps
 
   abbrev pub Goes : {A : Type 0} → ℕ → Run Config → (A → Config) → Run A → List Point → Type 0
   Goes bound p y (Done end cost) ps = Comes p (y end) cost ps
@@ -186,7 +186,7 @@ module _ (setting : Setting) where
   -- the same sure start
   pub over : {A B : Type 0} (n : ℕ) (q : Run B) (f : B → Run Config) (y : A → Config) (g : B → Run A)
       (h : B → List Point) → IsSure q → ((b : B) → Goes n (f b) y (g b) (h b))
-      → Goes n (q >>= f) y (q >>= g) (behind q h)
+      → Goes n (q >>= f) y (q >>= g) (points_behind q h)
   over n (Done b c) f y g h sure goes = spent n n c (f b) y (g b) (h b) (omega arith) (goes b)
   over n (Fault code c) f y g h sure goes = record { steps = 0; walks = refl; points = refl }
   over n More f y g h sure goes = absurd sure.by
@@ -200,7 +200,7 @@ module _ (setting : Setting) where
   -- a value that costs something
   pub over_value : {A B : Type 0} (m n c : ℕ) (v : Result B ℕ) (f : B → Run Config) (y : A → Config) (g : B → Run A)
       (h : B → List Point) → m ≤ n + c → ((b : B) → Goes n (f b) y (g b) (h b))
-      → Goes m (after_cost c (given v) >>= f) y (after_cost c (given v) >>= g) (behind (after_cost c (given v)) h)
+      → Goes m (after_cost c (given v) >>= f) y (after_cost c (given v) >>= g) (points_behind (after_cost c (given v)) h)
   over_value m n c (Ok b) f y g h le goes = spent m n (c + 0) (f b) y (g b) (h b) (omega arith) (goes b)
   over_value m n c (Err code) f y g h le goes = record { steps = 0; walks = refl; points = refl }
 
@@ -247,16 +247,16 @@ module _ (setting : Setting) where
   -- one after the other
   pub on : {A B : Type 0} (n : ℕ) (p : Run Config) (x : A → Config) (y : B → Config) (r : Run A) (f : A → Run B)
       (ps : List Point) (h : A → List Point)
-      → Goes n p x r ps → ((a : A) → Goes n (give (x a)) y (f a) (h a)) → Goes n p y (r >>= f) (ps ++ behind r h)
+      → Goes n p x r ps → ((a : A) → Goes n (give (x a)) y (f a) (h a)) → Goes n p y (r >>= f) (ps ++ points_behind r h)
   on {B = B} n p x y (Done a c) f ps h g goes = onward (f a) (goes a)
     where
       stepped : (s t : ℕ) → (p >>= walk setting s) ≡ Done (x a) c
           → (p >>= walk setting (plus s t)) ≡ after_cost c (walk setting t (x a))
       stepped s t e = then_walk p s t ∙ ap (λ z. z >>= walk setting t) e
 
-      listed : (s t : ℕ) → (p >>= walk setting s) ≡ Done (x a) c → behind p (seen setting s) ≡ ps
-          → behind p (seen setting (plus s t)) ≡ ps ++ seen setting t (x a)
-      listed s t e l = behind_seen p s t ∙ ap (λ z. behind p (seen setting s) ++ behind z (seen setting t)) e
+      listed : (s t : ℕ) → (p >>= walk setting s) ≡ Done (x a) c → points_behind p (seen setting s) ≡ ps
+          → points_behind p (seen setting (plus s t)) ≡ ps ++ seen setting t (x a)
+      listed s t e l = behind_seen p s t ∙ ap (λ z. points_behind p (seen setting s) ++ points_behind z (seen setting t)) e
           ∙ ap (λ z. z ++ seen setting t (x a)) l
 
       onward : (s : Run B) → Goes n (give (x a)) y s (h a) → Goes n p y (after_cost c s) (ps ++ h a)

@@ -8,11 +8,11 @@ use Rattle.meaning_points.specs.roopl_semantics.Run.{Run, Done, Fault, More, aft
 use Rattle.meaning_points.specs.roopl_semantics.Store.{State}
 use Rattle.meaning_points.specs.roopl_semantics.Execution.{Setting}
 use Rattle.meaning_points.proofs.roopl_semantics_laws.MoreFuel.{within_done, within_fault}
-use Rattle.meaning_points.specs.Points.{Point, behind}
+use Rattle.meaning_points.specs.Points.{Point, points_behind}
 use Rattle.meaning_points.specs.Trail.{trail}
 use Rattle.meaning_machine.specs.Machine.{Config, next, walk, seen, point_of}
-use Rattle.meaning_machine.specs.MachineLaws.{Follows}
-use Rattle.meaning_machine.specs.SourceLaws.{set_for, start_of, end_of}
+use Rattle.meaning_machine.specs.MachineLaws.{MachineFollows}
+use Rattle.meaning_machine.specs.SourceLaws.{set_for, start_config, end_config}
 use Rattle.meaning_machine.specs.TrailLaws.{BeginsWith, TrailIsWalked}
 use Rattle.meaning_machine.proofs.Steps.{plus, walk_plus, seen_plus}
 use Rattle.meaning_machine.proofs.Sources.{IsEnd, stays_next, ended_by, ends_at, run, follows, follows_as, joined}
@@ -39,11 +39,11 @@ module _ (setting : Setting) where
   seen_stays : (d : ℕ) (x : Config) → x.rest ≡ End → x.around ≡ [] → seen setting d x ≡ []
   seen_stays zero x rest around = refl
   seen_stays (suc d) x rest around =
-      ap (λ (body : Statements). point_of setting x.params x.state body ++ behind (next setting x) (seen setting d)) rest
-      ∙ ap (λ (r : Run Config). behind r (seen setting d)) (stays_next setting x rest around)
+      ap (λ (body : Statements). point_of setting x.params x.state body ++ points_behind (next setting x) (seen setting d)) rest
+      ∙ ap (λ (r : Run Config). points_behind r (seen setting d)) (stays_next setting x rest around)
       ∙ seen_stays d x rest around
 
-  end_points : (d : ℕ) (r : Run Config) → IsEnd r → behind r (seen setting d) ≡ []
+  end_points : (d : ℕ) (r : Run Config) → IsEnd r → points_behind r (seen setting d) ≡ []
   end_points d (Done x cost) end = seen_stays d x end.0 end.1
   end_points d (Fault code cost) end = refl
   end_points d More end = absurd end
@@ -65,9 +65,9 @@ module _ (setting : Setting) where
   goes_along : (m k d : ℕ) (x to : Config) (cost : ℕ) → walk setting m x ≡ Done to cost → k ≡ plus m (suc d)
       → BeginsWith (seen setting k x) (seen setting m x) (point_of setting to.params to.state to.rest)
   goes_along m k d x to cost e i = record {
-    more = behind (next setting to) (seen setting d);
+    more = points_behind (next setting to) (seen setting d);
     are = ap (λ n. seen setting n x) i ∙ seen_plus setting m (suc d) x
-        ∙ ap (λ (r : Run Config). seen setting m x ++ behind r (seen setting (suc d))) e;
+        ∙ ap (λ (r : Run Config). seen setting m x ++ points_behind r (seen setting (suc d))) e;
   }
 
   over_along : (ps : List Point) (to : Config) → to.rest ≡ End
@@ -90,7 +90,7 @@ module _ (program : Source) (limits : Limits) (input : List FieldWord) (n : ℕ)
   here = set_for program limits
 
   abbrev start : Config
-  start = start_of program input
+  start = start_config program input
 
   abbrev all : List Point
   all = (trail program limits input n).points
@@ -98,16 +98,16 @@ module _ (program : Source) (limits : Limits) (input : List FieldWord) (n : ℕ)
   abbrev where_it_stands : ℕ → Config → Type 0
   where_it_stands m to = BeginsWith all (seen here m start) (point_of here to.params to.state to.rest)
 
-  along_by : (r : Run State) → run program limits input n n ≡ r → Follows here n start (end_of program) r all
+  along_by : (r : Run State) → run program limits input n n ≡ r → MachineFollows here n start (end_config program) r all
       → (m : ℕ) (to : Config) (cost : ℕ) → walk here m start ≡ Done to cost → cost < n → where_it_stands m to
   along_by (Done end c) is f m to cost e h = elim (ahead m f.steps) [
     | later d i ↦ subst (λ (ps : List Point). BeginsWith ps (seen here m start) (point_of here to.params to.state
         to.rest)) f.points (goes_along here m f.steps d start to cost e i)
     | passed d i ↦
         let over : IsEnd (walk here f.steps start) = ends_at here f.steps start _ f.walks (refl, refl) in
-        let same : Done to cost ≡ Done (end_of program end) c = sym e ∙ ended_by here f.steps m d start i over
+        let same : Done to cost ≡ Done (end_config program end) c = sym e ∙ ended_by here f.steps m d start i over
         ∙ f.walks in
-        let there : to ≡ end_of program end = cc in
+        let there : to ≡ end_config program end = cc in
         let points : seen here m start ≡ all = further here f.steps m d start i over ∙ f.points in
         subst (λ (ps : List Point). BeginsWith ps (seen here m start) (point_of here to.params to.state to.rest))
         points (over_along here (seen here m start) to (ap (λ (x : Config). x.rest) there))

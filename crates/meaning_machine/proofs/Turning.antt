@@ -3,7 +3,7 @@ use Rattle.std.proofs.Common.{◌≡◌, refl, ap, ◌∙◌, true, List, [], �
 use Rattle.meaning_points.specs.rpp_tree.Tree.{Statements, End, Then}
 use Rattle.meaning_points.specs.inverse_rules.Inverse.{inverse}
 use Rattle.meaning_points.proofs.inverse_rules_laws.Inverses.{inverse_statement-twice, inverse-twice}
-use Rattle.meaning_machine.specs.Machine.{Open, Part, Chosen, First, Again, Holding, Calling}
+use Rattle.meaning_machine.specs.Machine.{Open, OpenPart, Chosen, First, Again, Holding, Calling}
 use Rattle.meaning_machine.specs.Turned.{each_undone, turned_part, turned_open, turn}
 use Rattle.meaning_machine.specs.Placed.{TurnsTwice}
 
@@ -12,7 +12,7 @@ each_twice End = refl
 each_twice (Then s b) =
     ap (λ t. Then t (each_undone (each_undone b))) (inverse_statement-twice true s) ∙ ap (Then s) (each_twice b)
 
-part_twice : (p : Part) → turned_part (turned_part p) ≡ p
+part_twice : (p : OpenPart) → turned_part (turned_part p) ≡ p
 part_twice (Chosen side test after) = refl
 part_twice (First entry first again exit) =
     ap (λ b. First entry b (inverse (inverse again)) exit) (inverse-twice true first)

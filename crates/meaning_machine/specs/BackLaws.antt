@@ -6,7 +6,7 @@ use Rattle.meaning_points.specs.roopl_semantics.Store.{Value, State}
 use Rattle.meaning_points.specs.roopl_semantics.Value.{evaluated}
 use Rattle.meaning_points.specs.roopl_semantics.Execution.{Setting, holds}
 use Rattle.meaning_machine.specs.Machine.{Open, Chosen, First, Again, inside, turned_to, left}
-use Rattle.meaning_machine.specs.MachineLaws.{before}
+use Rattle.meaning_machine.specs.MachineLaws.{config_before}
 use Rattle.meaning_machine.specs.Turned.{unwound, StepsBack}
 
 -- choices are undone with no note of them: the condition at the other end finds the side
@@ -16,8 +16,8 @@ pub record ChoicesStepBack : Type 0 where
       (at : ℕ) (test : Expression) (taken other : Statements) (after : Expression) (v : Value)
       (c : ℕ)
       → evaluated setting.program test st ≡ Done v c
-      → StepsBack setting (before past (Then (If at test taken other after) rest) params around st)
-      (inside (before past (Then (If at test taken other after) rest) params around st)
+      → StepsBack setting (config_before past (Then (If at test taken other after) rest) params around st)
+      (inside (config_before past (Then (If at test taken other after) rest) params around st)
       (If at test taken other after) rest (Chosen (holds v) test after)
       (if holds v then taken else other) st)
   pub left : (setting : Setting) (p past rest : Statements) (params : ℕ) (around : List Open)
@@ -28,7 +28,7 @@ pub record ChoicesStepBack : Type 0 where
       → evaluated setting.program after st ≡ Done w c
       → (if side then not (holds w) else holds w) ≡ false
       → StepsBack setting
-      (before p End params (record {
+      (config_before p End params (record {
         past = past;
         here = If at test taken other after;
         rest = rest;
@@ -66,26 +66,26 @@ pub record LoopsStepBack (setting : Setting) (past rest : Statements) (params : 
     (st : State) (at : ℕ) (entry : Expression) (first again : Statements)
     (exit : Expression) : Type 0 where
   pub entered : (v : Value) (c : ℕ) → evaluated setting.program entry st ≡ Done v c → holds v ≡ true
-      → StepsBack setting (before past (Then (From at entry first again exit) rest) params around
+      → StepsBack setting (config_before past (Then (From at entry first again exit) rest) params around
       st)
-      (inside (before past (Then (From at entry first again exit) rest) params around st)
+      (inside (config_before past (Then (From at entry first again exit) rest) params around st)
       (From at entry first again exit) rest (First entry first again exit) first st)
   pub over : (p : Statements) (v : Value) (c : ℕ) → unwound p End ≡ first
       → evaluated setting.program exit st ≡ Done v c → holds v ≡ true
-      → StepsBack setting (before p End params (in_first past rest at entry first again exit
+      → StepsBack setting (config_before p End params (in_first past rest at entry first again exit
       ∷ around) st)
       (left (in_first past rest at entry first again exit) around params st)
   pub second : (p : Statements) (v : Value) (c : ℕ) → unwound p End ≡ first
       → evaluated setting.program exit st ≡ Done v c → holds v ≡ false
-      → StepsBack setting (before p End params (in_first past rest at entry first again exit
+      → StepsBack setting (config_before p End params (in_first past rest at entry first again exit
       ∷ around) st)
-      (turned_to (before p End params (in_first past rest at entry first again exit ∷ around) st)
+      (turned_to (config_before p End params (in_first past rest at entry first again exit ∷ around) st)
       (in_first past rest at entry first again exit) around (Again entry first again exit) again)
   pub next_turn : (p : Statements) (v : Value) (c : ℕ) → unwound p End ≡ again
       → evaluated setting.program entry st ≡ Done v c → holds v ≡ false
-      → StepsBack setting (before p End params (in_second past rest at entry first again exit
+      → StepsBack setting (config_before p End params (in_second past rest at entry first again exit
       ∷ around) st)
-      (turned_to (before p End params (in_second past rest at entry first again exit ∷ around) st)
+      (turned_to (config_before p End params (in_second past rest at entry first again exit ∷ around) st)
       (in_second past rest at entry first again exit) around (First entry first again exit) first)
 
 abbrev pub TurnsStepBack : Type 0

@@ -15,7 +15,7 @@ use Rattle.meaning_points.specs.roopl_semantics.Execution.{TOO_DEEP, holds, boun
 use Rattle.meaning_points.specs.roopl_semantics.Execution.{moved_back, in_direction, cells_named, class_of}
 use Rattle.meaning_points.specs.roopl_semantics.Execution.{is_too_deep, constructed, element_name, element_call}
 use Rattle.meaning_points.specs.roopl_semantics.Execution.{statement}
-use Rattle.meaning_points.specs.Points.{Point, behind, begins}
+use Rattle.meaning_points.specs.Points.{Point, points_behind, begin_points}
 
 -- the caller of an active call, except for the store: its variables, its object, the number of its
 -- calls, and its number of parameters
@@ -26,12 +26,12 @@ pub record Caller : Type 0 where
   pub params : ℕ
 
 -- which part of an open statement runs
-pub data Part : Type 0 where
-  Chosen : (side : Bool) (test after : Expression) → Part
-  First : (entry : Expression) (first again : Statements) (exit : Expression) → Part
-  Again : (entry : Expression) (first again : Statements) (exit : Expression) → Part
-  Holding : (name : List ℕ) (value end_value : Expression) → Part
-  Calling : (caller : Caller) (receiver args : List Cell) (held : List Value) → Part
+pub data OpenPart : Type 0 where
+  Chosen : (side : Bool) (test after : Expression) → OpenPart
+  First : (entry : Expression) (first again : Statements) (exit : Expression) → OpenPart
+  Again : (entry : Expression) (first again : Statements) (exit : Expression) → OpenPart
+  Holding : (name : List ℕ) (value end_value : Expression) → OpenPart
+  Calling : (caller : Caller) (receiver args : List Cell) (held : List Value) → OpenPart
 
 -- an open statement, between those of its block: those that are past, the last one first, and the
 -- rest
@@ -39,7 +39,7 @@ pub record Open : Type 0 where
   pub past : Statements
   pub here : Statement
   pub rest : Statements
-  pub part : Part
+  pub part : OpenPart
 
 -- the state of a run: a block, a method with so many parameters, a state, and the enclosing
 -- statements, the innermost first
@@ -55,7 +55,7 @@ abbrev pub past_it : Config → Statement → Statements → State → Config
 past_it x s rest st = record x { past = Then s x.past; rest = rest; state = st }
 
 -- at the beginning of a block in a statement of the block
-abbrev pub inside : Config → Statement → Statements → Part → Statements → State → Config
+abbrev pub inside : Config → Statement → Statements → OpenPart → Statements → State → Config
 inside x s rest part body st = record {
   past = End;
   rest = body;
@@ -65,7 +65,7 @@ inside x s rest part body st = record {
 }
 
 -- at the beginning of a block in the innermost open statement
-abbrev pub turned_to : Config → Open → List Open → Part → Statements → Config
+abbrev pub turned_to : Config → Open → List Open → OpenPart → Statements → Config
 turned_to x o around part body = record x {
   past = End;
   rest = body;
@@ -176,12 +176,12 @@ module _ (setting : Setting) where
   begun x (Skip at) rest = simply x (Skip at) rest
 
   -- after the first block of a loop: the loop is left if the exit condition holds
-  abbrev pub turned_first : Config → Open → List Open → Part → Statements → Bool → Config
+  abbrev pub turned_first : Config → Open → List Open → OpenPart → Statements → Bool → Config
   turned_first x o around part again true = left o around x.params x.state
   turned_first x o around part again false = turned_to x o around part again
 
   -- the last statement of a block in the innermost open statement is past
-  abbrev pub ended : Config → Open → List Open → Part → Run Config
+  abbrev pub ended : Config → Open → List Open → OpenPart → Run Config
   ended x o around (Chosen side test after) = do
     w ← evaluated setting.program after x.state
     _ ← fault_if FI (if side then not (holds w) else holds w)
@@ -232,9 +232,9 @@ module _ (setting : Setting) where
   -- the trace point of a run: that of the statement that begins
   abbrev pub point_of : ℕ → State → Statements → List Point
   point_of params st End = []
-  point_of params st (Then s rest) = begins params s st
+  point_of params st (Then s rest) = begin_points params s st
 
   -- the trace points from which so many steps begin
   abbrev pub seen : ℕ → Config → List Point
   seen zero x = []
-  seen (suc m) x = point_of x.params x.state x.rest ++ behind (next x) (seen m)
+  seen (suc m) x = point_of x.params x.state x.rest ++ points_behind (next x) (seen m)

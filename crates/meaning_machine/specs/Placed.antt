@@ -8,14 +8,14 @@ use Rattle.meaning_points.specs.roopl_semantics.Run.{Done}
 use Rattle.meaning_points.specs.roopl_semantics.Store.{Value, State}
 use Rattle.meaning_points.specs.roopl_semantics.Value.{Cell}
 use Rattle.meaning_points.specs.roopl_semantics.Execution.{Setting, constructed, element_name, element_call}
-use Rattle.meaning_machine.specs.Machine.{Caller, Part, Chosen, First, Again, Holding, Calling}
+use Rattle.meaning_machine.specs.Machine.{Caller, OpenPart, Chosen, First, Again, Holding, Calling}
 use Rattle.meaning_machine.specs.Machine.{Open}
 use Rattle.meaning_machine.specs.Machine.{Config, next}
-use Rattle.meaning_machine.specs.MachineLaws.{before}
+use Rattle.meaning_machine.specs.MachineLaws.{config_before}
 use Rattle.meaning_machine.specs.Turned.{turn, unwound, StepsBack}
 
 -- the block that runs in a part of an open statement; that of a call is a method's
-pub data RunsIn : Statement → Part → Statements → Type 0 where
+pub data RunsIn : Statement → OpenPart → Statements → Type 0 where
   side : (at : ℕ) (test : Expression) (taken other : Statements) (after : Expression) (b : Bool)
       → RunsIn (If at test taken other after) (Chosen b test after) (if b then taken else other)
   first : (at : ℕ) (entry : Expression) (one two : Statements) (exit : Expression)
@@ -38,22 +38,22 @@ pub data RunsIn : Statement → Part → Statements → Type 0 where
       → RunsIn (Call at back receiver method args) (Calling caller cells others held) block
 
 -- a block is inside of these enclosing statements, the innermost first
-abbrev pub StandsIn : Statements → List Open → Type 0
-StandsIn block [] = Unit {0}
-StandsIn block (o ∷ around) = RunsIn o.here o.part block
-    × StandsIn (unwound o.past (Then o.here o.rest)) around
+abbrev pub IsBodyPlaced : Statements → List Open → Type 0
+IsBodyPlaced block [] = Unit {0}
+IsBodyPlaced block (o ∷ around) = RunsIn o.here o.part block
+    × IsBodyPlaced (unwound o.past (Then o.here o.rest)) around
 
 -- the valid configurations of a run
-pub record IsPlaced (x : Config) : Type 0 where
-  pub stands : StandsIn (unwound x.past x.rest) x.around
+pub record IsConfigPlaced (x : Config) : Type 0 where
+  pub stands : IsBodyPlaced (unwound x.past x.rest) x.around
 
 -- this holds at the start; a step keeps it, and so does reversing
 pub record StaysPlaced : Type 0 where
   pub start : (body : Statements) (params : ℕ) (st : State)
-      → IsPlaced (before End body params [] st)
+      → IsConfigPlaced (config_before End body params [] st)
   pub step : (setting : Setting) (x y : Config) (cost : ℕ)
-      → IsPlaced x → next setting x ≡ Done y cost → IsPlaced y
-  pub turned : (x : Config) → IsPlaced x → IsPlaced (turn x)
+      → IsConfigPlaced x → next setting x ≡ Done y cost → IsConfigPlaced y
+  pub turned : (x : Config) → IsConfigPlaced x → IsConfigPlaced (turn x)
 
 -- what is reversed twice is as it was
 abbrev pub TurnsTwice : Type 0
@@ -65,7 +65,7 @@ IsBranch (If at test taken other after) = Unit {0}
 IsBranch (From at entry one two exit) = Unit {0}
 IsBranch _ = ⊥
 
-abbrev pub IsBranchPart : Part → Type 0
+abbrev pub IsBranchPart : OpenPart → Type 0
 IsBranchPart (Chosen b test after) = Unit {0}
 IsBranchPart (First entry one two exit) = Unit {0}
 IsBranchPart (Again entry one two exit) = Unit {0}
@@ -81,5 +81,5 @@ Branches End (o ∷ around) = IsBranchPart o.part
 abbrev pub BranchesStepBack : Type 0
 BranchesStepBack =
     (setting : Setting) (x y : Config) (cost : ℕ)
-    → IsPlaced x → next setting x ≡ Done y cost → Branches x.rest x.around
+    → IsConfigPlaced x → next setting x ≡ Done y cost → Branches x.rest x.around
     → StepsBack setting x y

@@ -9,18 +9,18 @@ use Rattle.meaning_points.specs.roopl_semantics.Source.{main_body, starting, sou
 use Rattle.meaning_points.specs.roopl_semantics.Execution.{Setting}
 use Rattle.meaning_points.specs.Trail.{trail}
 use Rattle.meaning_machine.specs.Machine.{Config, walk}
-use Rattle.meaning_machine.specs.MachineLaws.{before, after, Arrives, Breaks}
+use Rattle.meaning_machine.specs.MachineLaws.{config_before, config_after, Arrives, Breaks}
 
 abbrev pub set_for : Source → Limits → Setting
 set_for program limits = record { program = program; limits = limits }
 
 -- where the run of a program begins
-abbrev pub start_of : Source → List FieldWord → Config
-start_of program input = before End (main_body program) 0 [] (starting program input)
+abbrev pub start_config : Source → List FieldWord → Config
+start_config program input = config_before End (main_body program) 0 [] (starting program input)
 
 -- where it is over
-abbrev pub end_of : Source → State → Config
-end_of program end = after End (main_body program) 0 [] end
+abbrev pub end_config : Source → State → Config
+end_config program end = config_after End (main_body program) 0 [] end
 
 -- a run that costs more than the fuel
 abbrev pub Exceeds : {A : Type 0} → ℕ → Run A → Type 0
@@ -41,26 +41,26 @@ pub record Outlasts (setting : Setting) (x : Config) (fuel : ℕ) : Type 0 where
 pub record SourceIsMachine (program : Source) (limits : Limits) (input : List FieldWord)
     (fuel : ℕ) : Type 0 where
   pub done : (end : State) (cost : ℕ) → source program limits input fuel ≡ Done end cost
-      → Arrives (set_for program limits) (start_of program input) (end_of program end) cost
+      → Arrives (set_for program limits) (start_config program input) (end_config program end) cost
       (trail program limits input fuel).points
   pub fault : (code cost : ℕ) → source program limits input fuel ≡ Fault code cost
-      → Breaks (set_for program limits) (start_of program input) code cost
+      → Breaks (set_for program limits) (start_config program input) code cost
       (trail program limits input fuel).points
   pub more : source program limits input fuel ≡ More
-      → Outlasts (set_for program limits) (start_of program input) fuel
+      → Outlasts (set_for program limits) (start_config program input) fuel
   pub done_only : (steps : ℕ) (end : State) (cost : ℕ)
-      → walk (set_for program limits) steps (start_of program input)
-      ≡ Done (end_of program end) cost
+      → walk (set_for program limits) steps (start_config program input)
+      ≡ Done (end_config program end) cost
       → cost ≤ fuel → source program limits input fuel ≡ Done end cost
   pub fault_only : (steps code cost : ℕ)
-      → walk (set_for program limits) steps (start_of program input) ≡ Fault code cost
+      → walk (set_for program limits) steps (start_config program input) ≡ Fault code cost
       → cost ≤ fuel → source program limits input fuel ≡ Fault code cost
-  pub more_only : Outlasts (set_for program limits) (start_of program input) fuel
+  pub more_only : Outlasts (set_for program limits) (start_config program input) fuel
       → source program limits input fuel ≡ More
   pub over : (steps : ℕ) (to : Config) (cost : ℕ)
-      → walk (set_for program limits) steps (start_of program input) ≡ Done to cost
+      → walk (set_for program limits) steps (start_config program input) ≡ Done to cost
       → to.rest ≡ End → to.around ≡ [] → cost ≤ fuel
       → source program limits input fuel ≡ Done to.state cost
   pub not_over : (steps : ℕ)
-      → walk (set_for program limits) steps (start_of program input) ≡ More
+      → walk (set_for program limits) steps (start_config program input) ≡ More
       → source program limits input fuel ≡ More

@@ -4,7 +4,7 @@ use Rattle.meaning_points.specs.rpp_tree.Tree.{Statements, End, Then}
 use Rattle.meaning_points.specs.inverse_rules.Inverse.{inverse_statement, inverse}
 use Rattle.meaning_points.specs.roopl_semantics.Run.{Done}
 use Rattle.meaning_points.specs.roopl_semantics.Execution.{Setting}
-use Rattle.meaning_machine.specs.Machine.{Config, Open, Part, Chosen, First, Again, Holding}
+use Rattle.meaning_machine.specs.Machine.{Config, Open, OpenPart, Chosen, First, Again, Holding}
 use Rattle.meaning_machine.specs.Machine.{Calling, next}
 
 -- each statement undone, in the same order
@@ -12,7 +12,7 @@ abbrev pub each_undone : Statements → Statements
 each_undone End = End
 each_undone (Then s rest) = Then (inverse_statement s) (each_undone rest)
 
-abbrev pub turned_part : Part → Part
+abbrev pub turned_part : OpenPart → OpenPart
 turned_part (Chosen side test after) = Chosen side after test
 turned_part (First entry first again exit) = First exit (inverse first) (inverse again) entry
 turned_part (Again entry first again exit) = Again exit (inverse first) (inverse again) entry

@@ -11,7 +11,7 @@ use Rattle.roopl_semantics.specs.Value.{Cell, NIL, cell_named, own_class, read, 
 use Rattle.roopl_semantics.specs.Execution.{Setting, Runner, holds, cells_named, class_of, is_too_deep, constructed}
 use Rattle.roopl_semantics.specs.Execution.{element_name, element_call, LOOP, TOO_DEEP, turns, turn_end}
 use Rattle.roopl_semantics.specs.Execution.{with_local, invoked, statement, exec}
-use Rattle.meaning_points.specs.Points.{Point, Lister, behind, begins, called_points, local_points, again_points}
+use Rattle.meaning_points.specs.Points.{Point, Lister, points_behind, begin_points, called_points, local_points, again_points}
 use Rattle.meaning_points.specs.Points.{turn_points, call_points, inner_points, points}
 use Rattle.meaning_points.specs.PointLaws.{StartsWith}
 
@@ -39,20 +39,20 @@ front before ps qs r s (same e d) = same (ap (λ l. before ++ l) e) d
 front before ps qs r s (longer e more d) = longer e more (ap (λ l. before ++ l) d ∙ sym (append_assoc before ps more))
 
 on : {A B : Type 0} (r : Run A) (f g : A → List Point) (h k : A → Run B) → ((a : A) → Grows (f a) (h a) (g a) (k a))
-    → Grows (behind r f) (r >>= h) (behind r g) (r >>= k)
+    → Grows (points_behind r f) (r >>= h) (points_behind r g) (r >>= k)
 on (Done a cost) f g h k both = spent (f a) (g a) (h a) (k a) cost (both a)
 on (Fault code cost) f g h k both = same refl refl
 on More f g h k both = same refl refl
 
 next : {A B : Type 0} (ps qs : List Point) (r s : Run A) (f g : A → List Point) (h k : A → Run B) → Grows ps r qs s
     → ((a : A) → Grows (f a) (h a) (g a) (k a))
-    → Grows (ps ++ behind r f) (r >>= h) (qs ++ behind s g) (s >>= k)
-next ps qs r s f g h k (same e d) both = rw (e, d) (front ps (behind r f) (behind r g) (r >>= h) (r >>= k)
+    → Grows (ps ++ points_behind r f) (r >>= h) (qs ++ points_behind s g) (s >>= k)
+next ps qs r s f g h k (same e d) both = rw (e, d) (front ps (points_behind r f) (points_behind r g) (r >>= h) (r >>= k)
     (on r f g h k both))
 next ps qs r s f g h k (longer e more d) both =
-    longer (ap (λ x. x >>= h) e) (more ++ behind s g)
-    (ap (λ l. l ++ behind s g) d ∙ append_assoc ps more (behind s g)
-    ∙ ap (λ l. l ++ (more ++ behind s g)) (sym (ap (λ x. ps ++ behind x f) e ∙ append-nil ps)))
+    longer (ap (λ x. x >>= h) e) (more ++ points_behind s g)
+    (ap (λ l. l ++ points_behind s g) d ∙ append_assoc ps more (points_behind s g)
+    ∙ ap (λ l. l ++ (more ++ points_behind s g)) (sym (ap (λ x. ps ++ points_behind x f) e ∙ append-nil ps)))
 
 -- ---- statements, over blocks with trace points that go on so
 
@@ -147,7 +147,7 @@ grows setting (suc n) (suc m) params End st h = same refl refl
 grows setting zero m params (Then first rest) st h = longer refl _ refl
 grows setting (suc n) (suc m) params (Then first rest) st h =
     spent _ _ _ _ 1 (next _ _ _ _ _ _ _ _
-    (front (begins params first st) _ _ _ _ (statement_on setting (exec setting n) (exec setting m) (points setting n)
+    (front (begin_points params first st) _ _ _ _ (statement_on setting (exec setting n) (exec setting m) (points setting n)
     (points setting m) (λ ps b s. grows setting n m ps b s (omega arith)) n m params first st (omega arith)))
     (λ end. grows setting n m params rest end (omega arith)))
 

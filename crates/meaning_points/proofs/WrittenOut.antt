@@ -16,8 +16,8 @@ use Rattle.roopl_semantics.specs.Store.{State, same_value}
 use Rattle.roopl_semantics.specs.Value.{Slot, read, evaluated}
 use Rattle.roopl_semantics.specs.Execution.{Setting, opened, closed, DELOCAL, constructed, element_name}
 use Rattle.roopl_semantics.specs.Execution.{element_call, statement, exec}
-use Rattle.meaning_points.specs.Points.{Point, behind, begins, inner_points, points}
-use Rattle.meaning_points.specs.WrittenOut.{Spots, all_at, name_at, construct_written, call_written, DoesAs}
+use Rattle.meaning_points.specs.Points.{Point, points_behind, begin_points, inner_points, points}
+use Rattle.meaning_points.specs.WrittenOut.{Spots, all_at, ident_at, construct_written, call_written, DoesAs}
 use Rattle.meaning_points.specs.WrittenOut.{HasPointsOf, placeless, HasMovedPointsOf}
 
 goes_on : {A B : Type 0} (r : Run A) (f g : A → Run B) → ((a : A) → f a ≡ g a) → r >>= f ≡ r >>= g
@@ -30,18 +30,18 @@ bind_same r s f g e each = ap (λ x. x >>= f) e ∙ goes_on s f g each
 
 module _ {Q : Type 0} (shown : Point → Q) (setting : Setting) where
   shows_on : {A : Type 0} (r : Run A) (f g : A → List Point) → ((a : A) → map shown (f a) ≡ map shown (g a))
-      → map shown (behind r f) ≡ map shown (behind r g)
+      → map shown (points_behind r f) ≡ map shown (points_behind r g)
   shows_on (Done a cost) f g each = each a
   shows_on (Fault code cost) f g each = refl
   shows_on More f g each = refl
 
   behind_same : {A : Type 0} (r s : Run A) (f g : A → List Point) → r ≡ s
-      → ((a : A) → map shown (f a) ≡ map shown (g a)) → map shown (behind r f) ≡ map shown (behind s g)
-  behind_same r s f g e each = ap (λ x. map shown (behind x f)) e ∙ shows_on s f g each
+      → ((a : A) → map shown (f a) ≡ map shown (g a)) → map shown (points_behind r f) ≡ map shown (points_behind s g)
+  behind_same r s f g e each = ap (λ x. map shown (points_behind x f)) e ∙ shows_on s f g each
 
   -- the trace points of a statement, with blocks bounded by n
   abbrev own : ℕ → ℕ → Statement → State → List Point
-  own n params s st = begins params s st ++ inner_points setting n (exec setting n) (points setting n) params s st
+  own n params s st = begin_points params s st ++ inner_points setting n (exec setting n) (points setting n) params s st
 
   -- two statements do and show the same
   record Same (s t : Statement) : Type 0 where
@@ -67,7 +67,7 @@ module _ {Q : Type 0} (shown : Point → Q) (setting : Setting) where
       shows zero params st = refl
       shows (suc n) params st =
           map-append shown (own n params s st) _
-          ∙ ap (λ l. l ++ map shown (behind (statement setting n (exec setting n) s st) (points setting n params b)))
+          ∙ ap (λ l. l ++ map shown (points_behind (statement setting n (exec setting n) s st) (points setting n params b)))
           (x.shows n params st)
           ∙ ap (λ l. map shown (own n params t st) ++ l)
           (behind_same _ _ _ _ (x.does n st) (λ end. y.shows n params end))
@@ -135,13 +135,13 @@ module _ {Q : Type 0} (shown : Point → Q) (setting : Setting) (at : ℕ) (spot
   construct_same : (class name end : Ident) (body : Statements)
       → Same shown setting (Construct at class name body end) (construct_written spots class.text name.text body)
   construct_same class name end body =
-      let made = λ (word : ℕ). New (spots word) (AnObject (name_at (spots (word + 1)) class.text))
-      (Whole (name_at (spots (word + 2)) name.text)) in
-      let gone = λ (word : ℕ). Delete (spots word) (AnObject (name_at (spots (word + 1)) class.text))
-      (Whole (name_at (spots (word + 2)) name.text)) in
+      let made = λ (word : ℕ). New (spots word) (AnObject (ident_at (spots (word + 1)) class.text))
+      (Whole (ident_at (spots (word + 2)) name.text)) in
+      let gone = λ (word : ℕ). Delete (spots word) (AnObject (ident_at (spots (word + 1)) class.text))
+      (Whole (ident_at (spots (word + 2)) name.text)) in
       let var = λ (word : ℕ). let it : Var = record {
-        kind = kind.Class (name_at (spots word) class.text);
-        name = name_at (spots (word + 1)) name.text;
+        kind = kind.Class (ident_at (spots word) class.text);
+        name = ident_at (spots (word + 1)) name.text;
       } in it in
       local_same (Construct at class name body end) (var 1) (var 10) (constructed at class name body)
       (Then (made 4) (joined body (Then (gone 7) End))) (λ n params st. refl) (λ n st. refl)
@@ -159,9 +159,9 @@ module _ {Q : Type 0} (shown : Point → Q) (setting : Setting) (at : ℕ) (spot
       (call_written spots class back name index method args)
   call_same class back name index method args =
       let here = Swap at (Whole (element_name at)) (Item name index) in
-      let exchange = λ (word : ℕ). Swap (spots word) (Whole (name_at (spots (word + 1)) [])) (Item name index) in
-      let called = Call (spots 5) back (Some (Whole (name_at (spots 6) []))) method args in
-      let var = λ (word : ℕ). let it : Var = record { kind = class; name = name_at (spots word) [] } in it in
+      let exchange = λ (word : ℕ). Swap (spots word) (Whole (ident_at (spots (word + 1)) [])) (Item name index) in
+      let called = Call (spots 5) back (Some (Whole (ident_at (spots 6) []))) method args in
+      let var = λ (word : ℕ). let it : Var = record { kind = class; name = ident_at (spots word) [] } in it in
       local_same (Call at back (Some (Item name index)) method args) (var 1) (var 9)
       (element_call at back name index method args)
       (Then (exchange 3) (Then called (Then (exchange 7) End))) (λ n params st. refl) (λ n st. refl)
@@ -215,9 +215,9 @@ pub construct_undone : (at : ℕ) (class name : List ℕ) (body : Statements)
     → inverse_statement (construct_written (all_at at) class name body)
     ≡ construct_written (all_at at) class name (inverse body)
 construct_undone at class name body =
-    let made = New at (AnObject (name_at at class)) (Whole (name_at at name)) in
-    let gone = Delete at (AnObject (name_at at class)) (Whole (name_at at name)) in
-    let var : Var = record { kind = kind.Class (name_at at class); name = name_at at name } in
+    let made = New at (AnObject (ident_at at class)) (Whole (ident_at at name)) in
+    let gone = Delete at (AnObject (ident_at at class)) (Whole (ident_at at name)) in
+    let var : Var = record { kind = kind.Class (ident_at at class); name = ident_at at name } in
     ap (λ b. Local at var (Null at) (joined b (Then gone End)) var (Null at))
     (inverse-joined true body (Then gone End))
 

@@ -26,18 +26,18 @@ abbrev pub Lister : Type 0
 Lister = ℕ → Statements → State → List Point
 
 -- what comes after a run that is done
-abbrev pub behind : {A : Type 0} → Run A → (A → List Point) → List Point
-behind (Done result cost) next = next result
-behind (Fault code cost) next = []
-behind More next = []
+abbrev pub points_behind : {A : Type 0} → Run A → (A → List Point) → List Point
+points_behind (Done result cost) next = next result
+points_behind (Fault code cost) next = []
+points_behind More next = []
 
 abbrev pub point_at : ℕ → ℕ → State → List Point
 point_at at params st = record { place = at; params = params; state = st } ∷ []
 
 -- the trace point of a statement where it begins: that of the local variable that it means, if it
 -- is a `construct` or a call on an element
-abbrev pub begins : ℕ → Statement → State → List Point
-begins params s st = point_at (statement_place s) params st
+abbrev pub begin_points : ℕ → Statement → State → List Point
+begin_points params s st = point_at (statement_place s) params st
 
 module _ (setting : Setting) where
   -- the trace points of a method that runs on an object: of its body, or of the inverse if it is
@@ -53,7 +53,7 @@ module _ (setting : Setting) where
   -- the trace points of a block with a local variable
   abbrev pub local_points : Lister → ℕ → List ℕ → Expression → Statements → State → List Point
   local_points list params name value body st =
-      behind (evaluated setting.program value st) (λ v. list params body (opened name v st))
+      points_behind (evaluated setting.program value st) (λ v. list params body (opened name v st))
 
   -- the trace points of a loop's iteration after its first block: none if the exit condition holds
   abbrev pub again_points : Runner → Lister → ℕ → Expression → Statements → (State → List Point)
@@ -61,8 +61,8 @@ module _ (setting : Setting) where
   again_points run list params entry again next true st = []
   again_points run list params entry again next false st =
       list params again st
-      ++ behind (run again st) (λ end. behind (evaluated setting.program entry end)
-      (λ v. behind (fault_if LOOP (holds v)) (λ u. next end)))
+      ++ points_behind (run again st) (λ end. points_behind (evaluated setting.program entry end)
+      (λ v. points_behind (fault_if LOOP (holds v)) (λ u. next end)))
 
   -- the trace points of a loop whose entry has passed, of at most so many iterations
   abbrev pub turn_points : ℕ → Runner → Lister → ℕ → Expression → Statements → Statements
@@ -70,7 +70,7 @@ module _ (setting : Setting) where
   turn_points zero run list params entry first again exit st = []
   turn_points (suc n) run list params entry first again exit st =
       list params first st
-      ++ behind (run first st) (λ end. behind (evaluated setting.program exit end) (λ v.
+      ++ points_behind (run first st) (λ end. points_behind (evaluated setting.program exit end) (λ v.
       again_points run list params entry again
       (turn_points n run list params entry first again exit) (holds v) end))
 
@@ -78,14 +78,14 @@ module _ (setting : Setting) where
   abbrev pub call_points : Lister → ℕ → ℕ → Bool → Option Lvalue → Ident → List Ident → State
       → List Point
   call_points list params at back None method args st =
-      behind (fault_if TOO_DEEP (is_too_deep setting st)) (λ u.
+      points_behind (fault_if TOO_DEEP (is_too_deep setting st)) (λ u.
       called_points list back (method_named setting.program (own_class st) method.text) st.self []
       (cells_named setting st args) st)
   call_points list params at back (Some (Whole name)) method args st =
       let cell = cell_named setting.program st name.text in
       let self = number_of (read st cell) in
-      behind (fault_if NIL (is_nil (read st cell)))
-      (λ u. behind (fault_if TOO_DEEP (is_too_deep setting st)) (λ u.
+      points_behind (fault_if NIL (is_nil (read st cell)))
+      (λ u. points_behind (fault_if TOO_DEEP (is_too_deep setting st)) (λ u.
       called_points list back (method_named setting.program (class_of setting st self) method.text)
       self (cell ∷ []) (cells_named setting st args) st))
   call_points list params at back (Some (Item name index)) method args st =
@@ -97,11 +97,11 @@ module _ (setting : Setting) where
   inner_points n run list params (Update at op target value) st = []
   inner_points n run list params (Swap at left right) st = []
   inner_points n run list params (If at test taken other after) st =
-      behind (evaluated setting.program test st) (λ v. list params
+      points_behind (evaluated setting.program test st) (λ v. list params
       (if holds v then taken else other) st)
   inner_points n run list params (From at entry first again exit) st =
-      behind (evaluated setting.program entry st)
-      (λ v. behind (fault_if LOOP (not (holds v))) (λ u.
+      points_behind (evaluated setting.program entry st)
+      (λ v. points_behind (fault_if LOOP (not (holds v))) (λ u.
       turn_points n run list params entry first again exit st))
   inner_points n run list params (Construct at class name body end) st =
       local_points list params name.text (Null at) (constructed at class name body) st
@@ -120,5 +120,5 @@ module _ (setting : Setting) where
   points n params End st = []
   points zero params (Then first rest) st = []
   points (suc n) params (Then first rest) st =
-      begins params first st ++ inner_points n (exec setting n) (points n) params first st
-      ++ behind (statement setting n (exec setting n) first st) (points n params rest)
+      begin_points params first st ++ inner_points n (exec setting n) (points n) params first st
+      ++ points_behind (statement setting n (exec setting n) first st) (points n params rest)

@@ -20,20 +20,20 @@ Spots = ℕ → ℕ
 abbrev pub all_at : ℕ → Spots
 all_at at = λ word. at
 
-abbrev pub name_at : ℕ → List ℕ → Ident
-name_at at text = record { at = at; text = text }
+abbrev pub ident_at : ℕ → List ℕ → Ident
+ident_at at text = record { at = at; text = text }
 
 abbrev pub var_at : VarType → ℕ → List ℕ → Var
-var_at class at text = record { kind = class; name = name_at at text }
+var_at class at text = record { kind = class; name = ident_at at text }
 
 -- local C x = nil new C x body delete C x delocal C x = nil
 abbrev pub construct_written : Spots → List ℕ → List ℕ → Statements → Statement
 construct_written at class name body =
-    Local (at 0) (var_at (kind.Class (name_at (at 1) class)) (at 2) name) (Null (at 3))
-    (Then (New (at 4) (AnObject (name_at (at 5) class)) (Whole (name_at (at 6) name)))
+    Local (at 0) (var_at (kind.Class (ident_at (at 1) class)) (at 2) name) (Null (at 3))
+    (Then (New (at 4) (AnObject (ident_at (at 5) class)) (Whole (ident_at (at 6) name)))
     (joined body
-    (Then (Delete (at 7) (AnObject (name_at (at 8) class)) (Whole (name_at (at 9) name))) End)))
-    (var_at (kind.Class (name_at (at 10) class)) (at 11) name) (Null (at 12))
+    (Then (Delete (at 7) (AnObject (ident_at (at 8) class)) (Whole (ident_at (at 9) name))) End)))
+    (var_at (kind.Class (ident_at (at 10) class)) (at 11) name) (Null (at 12))
 
 -- local C t = nil t <=> a[e] call t::q(..) t <=> a[e] delocal C t = nil, where the name of t is
 -- empty, so that no program has it
@@ -41,9 +41,9 @@ abbrev pub call_written : Spots → VarType → Bool → Ident → Expression �
     → Statement
 call_written at class back name index method args =
     Local (at 0) (var_at class (at 1) []) (Null (at 2))
-    (Then (Swap (at 3) (Whole (name_at (at 4) [])) (Item name index))
-    (Then (Call (at 5) back (Some (Whole (name_at (at 6) []))) method args)
-    (Then (Swap (at 7) (Whole (name_at (at 8) [])) (Item name index)) End)))
+    (Then (Swap (at 3) (Whole (ident_at (at 4) [])) (Item name index))
+    (Then (Call (at 5) back (Some (Whole (ident_at (at 6) []))) method args)
+    (Then (Swap (at 7) (Whole (ident_at (at 8) [])) (Item name index)) End)))
     (var_at class (at 9) []) (Null (at 10))
 
 -- two statements do the same before any others

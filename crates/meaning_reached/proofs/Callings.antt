@@ -9,7 +9,7 @@ use Rattle.meaning_sound.specs.rpp_tree.Tree.{Statements, Procedure, Source}
 use Rattle.meaning_sound.specs.class_rules.declared.kind.Kind.{Kind}
 use Rattle.meaning_sound.specs.class_rules.Table.{table_of}
 use Rattle.meaning_sound.specs.class_rules.Scope.{Locals}
-use Rattle.meaning_sound.specs.class_rules.Statements.{passed, check_statements}
+use Rattle.meaning_sound.specs.class_rules.Statements.{verdict_passed, check_statements}
 use Rattle.meaning_sound.specs.class_rules.Program.{setting_in, with_parameters}
 use Rattle.meaning_sound.specs.roopl_semantics.Store.{Value, Word, Nil, Name, Binding, State, is_zero, cleared}
 use Rattle.meaning_sound.specs.roopl_semantics.Value.{Cell, Slot, Part, value_at, read, written}
@@ -17,7 +17,7 @@ use Rattle.meaning_sound.specs.roopl_semantics.Execution.{Setting, Runner, moved
 use Rattle.meaning_sound.specs.roopl_semantics.Execution.{in_direction}
 use Rattle.meaning_sound.specs.roopl_semantics.Execution.{invoked}
 use Rattle.meaning_sound.specs.roopl_semantics.Laws.{one_if_name, holders_among}
-use Rattle.meaning_sound.specs.Sound.{is_live, AllFit, value_of, Sound, Keeps, Typed}
+use Rattle.meaning_sound.specs.Sound.{is_live, AllFit, bound_value, Sound, Keeps, Typed}
 use Rattle.meaning_sound.specs.Plain.{IsPlain}
 use Rattle.meaning_sound.specs.Kept.{MeansSame}
 use Rattle.meaning_sound.proofs.Classes.{KnowsClasses}
@@ -31,7 +31,7 @@ use Rattle.meaning_sound.proofs.Moves.{CellsHave, ApartFrom, AllApart, AllOwn, c
 use Rattle.meaning_sound.proofs.Invocations.{IsCall, caller, given, more, callee, begun, after, returned, out}
 use Rattle.meaning_sound.proofs.Invocations.{given_fit, bound_values, begun_sound, body_checks, body_plain}
 use Rattle.meaning_sound.proofs.Invocations.{means_callee, after_typed, cells_after, returned_fit}
-use Rattle.meaning_reached.specs.Reached.{is_within, is_rooted, IsClosed, Reaches}
+use Rattle.meaning_reached.specs.Reached.{is_value_within, is_rooted, IsClosed, Reaches}
 use Rattle.meaning_reached.proofs.Rooted.{own_rooted, closed_before}
 use Rattle.meaning_sound.proofs.Objects.{one_is}
 
@@ -39,7 +39,7 @@ use Rattle.meaning_sound.proofs.Objects.{one_is}
 pub record ReachesAll (setting : Setting) (run : Runner) : Type 0 where
   pub by : (extra : ℕ → ℕ) (locals shape : Locals) (class : ℕ) (body : Statements) (st : State)
       → class < length setting.program.classes → MeansSame locals shape
-      → check_statements (setting_in setting.program (table_of setting.program) class) locals body ≡ passed
+      → check_statements (setting_in setting.program (table_of setting.program) class) locals body ≡ verdict_passed
       → IsPlain body
       → Sound setting extra shape class st → Reaches extra st → Ends (Reaches extra) (run body st)
 
@@ -54,7 +54,7 @@ ends_both P Q Rattle.meaning_sound.specs.roopl_semantics.Run.More h k = tt
 
 abbrev pub AllWithin : (ℕ → Bool) → List Value → Type 0
 AllWithin names [] = Unit {0}
-AllWithin names (v ∷ vs) = (is_within names v ≡ true) × AllWithin names vs
+AllWithin names (v ∷ vs) = (is_value_within names v ≡ true) × AllWithin names vs
 
 within_append : (names : ℕ → Bool) (vs ws : List Value) → AllWithin names vs → AllWithin names ws
     → AllWithin names (vs ++ ws)
@@ -69,7 +69,7 @@ within_back : (names : ℕ → Bool) (vs ws : List Value) → AllWithin names (v
 within_back names [] ws h = h
 within_back names (v ∷ vs) ws h = within_back names vs ws h.1
 
-value_holds : (names : ℕ → Bool) (v : Value) (m : ℕ) → is_within names v ≡ true → 0 < one_if_name m v → names m ≡ true
+value_holds : (names : ℕ → Bool) (v : Value) (m : ℕ) → is_value_within names v ≡ true → 0 < one_if_name m v → names m ≡ true
 value_holds names (Word w) m h p = absurd (let z : 0 < 0 = p in omega arith)
 value_holds names Nil m h p = absurd (let z : 0 < 0 = p in omega arith)
 value_holds names (Name n) m h p = ap names (sym (one_is m n p)) ∙ h
@@ -90,20 +90,20 @@ pub holds_within : (names : ℕ → Bool) (vs : List Value) → ((m : ℕ) → 0
 holds_within names [] h = tt
 holds_within names (v ∷ vs) h = (one v (λ m p. h m (omega arith)), holds_within names vs (λ m p. h m (omega arith)))
   where
-    one : (v : Value) → ((m : ℕ) → 0 < one_if_name m v → names m ≡ true) → is_within names v ≡ true
+    one : (v : Value) → ((m : ℕ) → 0 < one_if_name m v → names m ≡ true) → is_value_within names v ≡ true
     one (Word w) h = refl
     one Nil h = refl
     one (Name n) h = h n (let e : one_if_name n (Name n) ≡ 1 = ap (λ b. if b then 1 else 0) (same_number n) in
         omega arith)
 
 -- the variables of a frame
-slots_within : (names : ℕ → Bool) (frame : List Binding) → ((i : ℕ) → is_within names (value_at frame i) ≡ true)
-    → AllWithin names (map value_of frame)
+slots_within : (names : ℕ → Bool) (frame : List Binding) → ((i : ℕ) → is_value_within names (value_at frame i) ≡ true)
+    → AllWithin names (map bound_value frame)
 slots_within names [] h = tt
 slots_within names (b ∷ frame) h = (h 0, slots_within names frame (λ i. h (suc i)))
 
-within_slots : (names : ℕ → Bool) (frame : List Binding) → AllWithin names (map value_of frame) → (i : ℕ)
-    → is_within names (value_at frame i) ≡ true
+within_slots : (names : ℕ → Bool) (frame : List Binding) → AllWithin names (map bound_value frame) → (i : ℕ)
+    → is_value_within names (value_at frame i) ≡ true
 within_slots names [] h i = refl
 within_slots names (b ∷ frame) h zero = h.0
 within_slots names (b ∷ frame) h (suc i) = within_slots names frame h.1 i
@@ -116,7 +116,7 @@ any_of_three a b c {A} p f g h = by (nat_lt 0 a) refl (nat_lt 0 b) refl
     by false e true d = g (ltb-true 0 b d)
     by false e false d = h (let q = ltb-false 0 a e in let r = ltb-false 0 b d in omega arith)
 
-zero_within : (names : ℕ → Bool) (v : Value) → not (is_zero v) ≡ false → is_within names v ≡ true
+zero_within : (names : ℕ → Bool) (v : Value) → not (is_zero v) ≡ false → is_value_within names v ≡ true
 zero_within names (Word w) h = refl
 zero_within names Nil h = refl
 zero_within names (Name n) h = absurd (cc)
@@ -127,7 +127,7 @@ reads_within : (names : ℕ → Bool) (st : State) (cell : Cell) (v : Value) (ce
     → AllWithin names (map (read st) cells) → AllWithin names (map (read (written st cell v)) cells)
 reads_within names st cell v [] a h = tt
 reads_within names st cell v (c ∷ cells) a h = (
-  ap (is_within names) (read_other st cell c v a.0)
+  ap (is_value_within names) (read_other st cell c v a.0)
       ∙ h.0,
   reads_within names st cell v cells a.1 h.1,
 )
@@ -172,7 +172,7 @@ module _ (setting : Setting) (extra : ℕ → ℕ) (shape : Locals) (class : ℕ
         before = λ names z. closed_before names extra st c v (λ r. zero_within names (read st c) q) (b.before names z);
         values_within = λ names z.
             let z1 = b.before names z in (
-              ap (is_within names) (sym (read_same setting extra shape class st c k v t h.0))
+              ap (is_value_within names) (sym (read_same setting extra shape class st c k v t h.0))
                   ∙ z1.cells c (own_rooted names extra st1 self c z1 p o.0),
               b.values_within names z,
             );
@@ -213,7 +213,7 @@ module _ (setting : Setting) (classes : KnowsClasses setting.program) (run : Run
     moved = out setting classes run keeps extra shape class back method self own params receiver args receiver_kinds st
         call
 
-    values_are : map value_of first.frame ≡ values
+    values_are : map bound_value first.frame ≡ values
     values_are = bound_values program caller_state.store method.params values
         (given_fit setting classes run keeps extra shape class back method self own params receiver args receiver_kinds
         st call)
@@ -226,8 +226,8 @@ module _ (setting : Setting) (classes : KnowsClasses setting.program) (run : Run
       where
         before : (names : ℕ → Bool) → IsClosed names more_held first → IsClosed names extra st
         before names c =
-            let in_frame : AllWithin names (map value_of caller_state.frame) =
-            holds_within names (map value_of caller_state.frame) (λ m p. c.extras m (omega arith)) in
+            let in_frame : AllWithin names (map bound_value caller_state.frame) =
+            holds_within names (map bound_value caller_state.frame) (λ m p. c.extras m (omega arith)) in
             let in_receiver : AllWithin names (map (read st) receiver) =
             holds_within names (map (read st) receiver) (λ m p. c.extras m (omega arith)) in
             let in_args : AllWithin names (map (read st) args) =
@@ -238,8 +238,8 @@ module _ (setting : Setting) (classes : KnowsClasses setting.program) (run : Run
             out_before names extra (receiver ++ args) st call.apart all
             (record { extras = λ m p. c.extras m (omega arith); cells = λ d h. cells c in_frame d h })
           where
-            cells : IsClosed names more_held first → AllWithin names (map value_of caller_state.frame) → (d : Cell)
-                → is_rooted names d ≡ true → is_within names (read caller_state d) ≡ true
+            cells : IsClosed names more_held first → AllWithin names (map bound_value caller_state.frame) → (d : Cell)
+                → is_rooted names d ≡ true → is_value_within names (read caller_state d) ≡ true
             cells c f (Slot i) h = within_slots names caller_state.frame f i
             cells c f (Part n i) h = c.cells (Part n i) h
 
@@ -262,22 +262,22 @@ module _ (setting : Setting) (classes : KnowsClasses setting.program) (run : Run
           closed : (names : ℕ → Bool) → IsClosed names extra caller_after → AllWithin names values_back
               → IsClosed names more_held end
           closed names c w =
-              let in_frame : AllWithin names (map value_of caller_state.frame) =
+              let in_frame : AllWithin names (map bound_value caller_state.frame) =
               slots_within names caller_state.frame (λ i. c.cells (Slot i) refl) in
               let in_receiver : AllWithin names (map (read st) receiver) =
-              within_front names (map (read st) receiver) (map value_of end.frame) w in
-              let in_callee_frame : AllWithin names (map value_of end.frame) =
-              within_back names (map (read st) receiver) (map value_of end.frame) w in
+              within_front names (map (read st) receiver) (map bound_value end.frame) w in
+              let in_callee_frame : AllWithin names (map bound_value end.frame) =
+              within_back names (map (read st) receiver) (map bound_value end.frame) w in
               record {
-                extras = λ m p. any_of_three (extra m) (holders_among m (map value_of caller_state.frame))
+                extras = λ m p. any_of_three (extra m) (holders_among m (map bound_value caller_state.frame))
                     (holders_among m (map (read st) receiver)) p (λ q. c.extras m q)
-                    (λ q. within_holds names (map value_of caller_state.frame) m in_frame q)
+                    (λ q. within_holds names (map bound_value caller_state.frame) m in_frame q)
                     (λ q. within_holds names (map (read st) receiver) m in_receiver q);
                 cells = λ d h. cells in_callee_frame d h;
               }
             where
-              cells : AllWithin names (map value_of end.frame) → (d : Cell) → is_rooted names d ≡ true
-                  → is_within names (read end d) ≡ true
+              cells : AllWithin names (map bound_value end.frame) → (d : Cell) → is_rooted names d ≡ true
+                  → is_value_within names (read end d) ≡ true
               cells f (Slot i) h = within_slots names end.frame f i
               cells f (Part n i) h = c.cells (Part n i) h
 

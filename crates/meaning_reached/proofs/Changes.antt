@@ -12,13 +12,13 @@ use Rattle.meaning_sound.specs.roopl_semantics.Store.{no_object}
 use Rattle.meaning_sound.specs.roopl_semantics.Store.{changed_at}
 use Rattle.meaning_sound.specs.roopl_semantics.Value.{Cell, Slot, Part, value_at, read, written}
 use Rattle.meaning_sound.specs.roopl_semantics.Execution.{Setting, same_cell, opened, closed}
-use Rattle.meaning_sound.specs.roopl_semantics.Execution.{counted}
+use Rattle.meaning_sound.specs.roopl_semantics.Execution.{count_changed}
 use Rattle.meaning_sound.specs.Sound.{is_live, cell_kind, Typed}
 use Rattle.meaning_sound.proofs.Stores.{same_number, differs, changed_here, changed_other}
 use Rattle.meaning_sound.proofs.Cells.{heads_written}
 use Rattle.meaning_sound.proofs.Makes.{is_array}
 use Rattle.meaning_sound.proofs.AfterWrites.{same_cell_is, read_other, read_same, read_moved}
-use Rattle.meaning_reached.specs.Reached.{is_within, is_rooted, IsClosed, Reaches}
+use Rattle.meaning_reached.specs.Reached.{is_value_within, is_rooted, IsClosed, Reaches}
 use Rattle.meaning_reached.proofs.Rooted.{IsVisible, kinds_apart, visible_rooted, closed_before}
 use Rattle.meaning_sound.proofs.Objects.{clash}
 
@@ -51,31 +51,31 @@ opened_reaches extra name v st r = reaches_on extra st (opened name v st)
     (λ names c. record { extras = c.extras; cells = cells names c }) (λ n l. l) r
   where
     cells : (names : ℕ → Bool) → IsClosed names extra (opened name v st) → (cell : Cell) → is_rooted names cell ≡ true
-        → is_within names (read st cell) ≡ true
+        → is_value_within names (read st cell) ≡ true
     cells names c (Slot i) h = c.cells (Slot (suc i)) refl
     cells names c (Part n i) h = c.cells (Part n i) h
 
 pub closed_reaches : (extra : ℕ → ℕ) (end : State) → ((names : ℕ → Bool)
-    → is_within names (value_at end.frame 0) ≡ true) → Reaches extra end → Reaches extra (closed end)
+    → is_value_within names (value_at end.frame 0) ≡ true) → Reaches extra end → Reaches extra (closed end)
 closed_reaches extra end none r = reaches_on extra end (closed end)
     (λ names c. record { extras = c.extras; cells = cells names c }) (λ n l. l) r
   where
-    slots : (names : ℕ → Bool) (frame : List Binding) → is_within names (value_at frame 0) ≡ true
-        → ((i : ℕ) → is_within names (value_at (Rattle.meaning_sound.specs.roopl_semantics.Execution.rest_of frame) i)
+    slots : (names : ℕ → Bool) (frame : List Binding) → is_value_within names (value_at frame 0) ≡ true
+        → ((i : ℕ) → is_value_within names (value_at (Rattle.meaning_sound.specs.roopl_semantics.Execution.rest_of frame) i)
         ≡ true)
-        → (i : ℕ) → is_within names (value_at frame i) ≡ true
+        → (i : ℕ) → is_value_within names (value_at frame i) ≡ true
     slots names [] first rest i = refl
     slots names (b ∷ frame) first rest zero = first
     slots names (b ∷ frame) first rest (suc i) = rest i
 
     cells : (names : ℕ → Bool) → IsClosed names extra (closed end) → (cell : Cell) → is_rooted names cell ≡ true
-        → is_within names (read end cell) ≡ true
+        → is_value_within names (read end cell) ≡ true
     cells names c (Slot i) h = slots names end.frame (none names) (λ j. c.cells (Slot j) refl) i
     cells names c (Part n i) h = c.cells (Part n i) h
 
 -- ---- counts
 
-pub read_counted : (st : State) (n : ℕ) (f : ℕ → ℕ) (cell : Cell) → read (counted f st n) cell ≡ read st cell
+pub read_counted : (st : State) (n : ℕ) (f : ℕ → ℕ) (cell : Cell) → read (count_changed f st n) cell ≡ read st cell
 read_counted st n f (Slot i) = refl
 read_counted st n f (Part m i) = by (nat_eq n m) refl
   where
@@ -86,7 +86,7 @@ read_counted st n f (Part m i) = by (nat_eq n m) refl
     mapped None = refl
     mapped (Some o) = refl
 
-    by : (b : Bool) → nat_eq n m ≡ b → read (counted f st n) (Part m i) ≡ read st (Part m i)
+    by : (b : Bool) → nat_eq n m ≡ b → read (count_changed f st n) (Part m i) ≡ read st (Part m i)
     by true e =
         subst (λ k. unwrap_or (slice_get (object_at (changed_at st.store n g) k).cells i) Nil
         ≡ unwrap_or (slice_get (object_at st.store k).cells i) Nil) (eqb-true n m e)
@@ -97,10 +97,10 @@ read_counted st n f (Part m i) = by (nat_eq n m) refl
         (changed_other st.store n m g (differs n m e))
 
 pub closed_uncounted : (names : ℕ → Bool) (extra : ℕ → ℕ) (st : State) (n : ℕ) (f : ℕ → ℕ)
-    → IsClosed names extra (counted f st n) → IsClosed names extra st
+    → IsClosed names extra (count_changed f st n) → IsClosed names extra st
 closed_uncounted names extra st n f c = record {
   extras = c.extras;
-  cells = λ cell h. ap (is_within names) (sym (read_counted st n f cell)) ∙ c.cells cell h;
+  cells = λ cell h. ap (is_value_within names) (sym (read_counted st n f cell)) ∙ c.cells cell h;
 }
 
 module _ (setting : Setting) (extra : ℕ → ℕ) (shape : Locals) (class : ℕ) where
@@ -115,7 +115,7 @@ module _ (setting : Setting) (extra : ℕ → ℕ) (shape : Locals) (class : ℕ
 
   pub write_reaches : (st : State) (cell : Cell) (v : Value)
       → ((names : ℕ → Bool) → IsClosed names extra (written st cell v) → is_rooted names cell ≡ true
-      → is_within names (read st cell) ≡ true) → Reaches extra st → Reaches extra (written st cell v)
+      → is_value_within names (read st cell) ≡ true) → Reaches extra st → Reaches extra (written st cell v)
   write_reaches st cell v was r = reaches_on extra st (written st cell v)
       (λ names c. closed_before names extra st cell v (was names c) c) (live_before st cell v) r
 
@@ -158,18 +158,18 @@ module _ (setting : Setting) (extra : ℕ → ℕ) (shape : Locals) (class : ℕ
       back names c =
           let ra = visible_rooted program shape names extra st end k a va t.self_held stays c in
           let rb = visible_rooted program shape names extra st end k b vb t.self_held stays c in
-          let has_x : is_within names x ≡ true = ap (is_within names)
+          let has_x : is_value_within names x ≡ true = ap (is_value_within names)
           (sym (read_same setting extra shape class st1 b k x t1 hb1)) ∙ c.cells b rb in
-          let has_y : is_within names y ≡ true = second (same_cell a b) refl ra has_x in
+          let has_y : is_value_within names y ≡ true = second (same_cell a b) refl ra has_x in
           let moved : read st1 b ≡ y = read_one b ∙ read_moved setting extra shape class st a b k t ha in
-          let c1 = closed_before names extra st1 b x (λ q. ap (is_within names) moved ∙ has_y) c in
+          let c1 = closed_before names extra st1 b x (λ q. ap (is_value_within names) moved ∙ has_y) c in
           closed_before names extra st a y (λ q. has_x) (subst (IsClosed names extra) is c1)
         where
-          second : (s : Bool) → same_cell a b ≡ s → is_rooted names a ≡ true → is_within names x ≡ true
-              → is_within names y ≡ true
-          second true e ra has_x = ap (λ d. is_within names (read st d)) (sym (same_cell_is a b e)) ∙ has_x
+          second : (s : Bool) → same_cell a b ≡ s → is_rooted names a ≡ true → is_value_within names x ≡ true
+              → is_value_within names y ≡ true
+          second true e ra has_x = ap (λ d. is_value_within names (read st d)) (sym (same_cell_is a b e)) ∙ has_x
           second false e ra has_x =
               let turned = cell_turned a b e in
               let q : read end a ≡ y = read_other st1 b a x turned ∙ read_one a
               ∙ read_same setting extra shape class st a k y t ha in
-              ap (is_within names) (sym q) ∙ c.cells a ra
+              ap (is_value_within names) (sym q) ∙ c.cells a ra

@@ -18,7 +18,7 @@ use Rattle.meaning_sound.specs.rpp_words.Limits.{IsLimits}
 use Rattle.meaning_sound.specs.roopl_semantics.Laws.{holders}
 use Rattle.meaning_sound.specs.roopl_semantics.Report.{numbered, live_count, live_line, objects_shown}
 use Rattle.meaning_sound.specs.roopl_semantics.Layout.{has_plain_head, is_plain_among, is_plain}
-use Rattle.meaning_sound.specs.roopl_semantics.Walk.{counted}
+use Rattle.meaning_sound.specs.roopl_semantics.Walk.{counted_live}
 use Rattle.meaning_sound.proofs.roopl_semantics_laws.MoreFuel.{within_done}
 use Rattle.meaning_sound.proofs.roopl_semantics_laws.MainPlace.{class_inside}
 use Rattle.meaning_sound.specs.Sound.{head_of, head_named, is_live, named_fits, Descending, Sound, main_alone}
@@ -30,8 +30,8 @@ use Rattle.meaning_sound.proofs.Objects.{unheld}
 use Rattle.meaning_sound.proofs.Accepted.{knows_classes}
 use Rattle.meaning_sound.proofs.Plainness.{program_plain}
 use Rattle.meaning_sound.proofs.Starting.{starting_sound, main_text, end_sound, no_frame}
-use Rattle.meaning_reached.specs.Reached.{is_within, is_rooted, IsClosed, Reaches}
-use Rattle.meaning_reached.specs.Ending.{ExecutionReaches, IsReached, EndsReached}
+use Rattle.meaning_reached.specs.Reached.{is_value_within, is_rooted, IsClosed, Reaches}
+use Rattle.meaning_reached.specs.Ending.{ExecutionReaches, IsStoreReached, EndsReached}
 use Rattle.meaning_reached.proofs.Changes.{or_either}
 use Rattle.meaning_reached.proofs.Callings.{AllWithin}
 use Rattle.meaning_reached.proofs.Reaching.{exec_reaches}
@@ -57,7 +57,7 @@ starting_reaches program input = record { all = λ names c n l. by names c n (na
     by names c n false e l = absurd (cc)
 
 get_within : (names : ℕ → Bool) (vs : List Value) (i : ℕ) → AllWithin names vs
-    → is_within names (Rattle.std.specs.Option.unwrap_or (Rattle.std.proofs.Common.slice_get vs i) Nil) ≡ true
+    → is_value_within names (Rattle.std.specs.Option.unwrap_or (Rattle.std.proofs.Common.slice_get vs i) Nil) ≡ true
 get_within names [] i h = refl
 get_within names (v ∷ vs) zero h = h.0
 get_within names (v ∷ vs) (suc i) h = get_within names vs i h.1
@@ -66,7 +66,7 @@ get_within names (v ∷ vs) (suc i) h = get_within names vs i h.1
 pub reached_store : (program : Source) (limits : Limits) (class : ℕ) (end : State)
     → Sound (record { program = program; limits = limits }) main_alone [] class end
     → named_fits program (Rattle.meaning_sound.specs.class_rules.declared.kind.Kind.TheVariants.Class class)
-    (head_named end.store main_name) ≡ true → Reaches main_alone end → IsReached program end.store
+    (head_named end.store main_name) ≡ true → Reaches main_alone end → IsStoreReached program end.store
 reached_store program limits class end s main_fits r = record {
   met = λ n l apart. met n l apart;
   lives = λ n h. lives n (w.held n h);
@@ -74,7 +74,7 @@ reached_store program limits class end s main_fits r = record {
   plain = plain_store;
   count = count;
   reports = λ cells. ap (λ b. objects_shown program store
-      ++ live_line (if b then live_count store else counted program cells)) plain_store;
+      ++ live_line (if b then live_count store else counted_live program cells)) plain_store;
 }
   where
     store : Store
@@ -114,8 +114,8 @@ reached_store program limits class end s main_fits r = record {
         wider vs h = within_more (is_in (numbered store)) names vs
             (λ n q. or_left (is_in (numbered store) n) (nat_eq n main_name) q) h
 
-        cells : (cell : Cell) → is_rooted names cell ≡ true → is_within names (read end cell) ≡ true
-        cells (Slot i) h = ap (λ frame. is_within names (value_at frame i)) none
+        cells : (cell : Cell) → is_rooted names cell ≡ true → is_value_within names (read end cell) ≡ true
+        cells (Slot i) h = ap (λ frame. is_value_within names (value_at frame i)) none
         cells (Part n i) h = get_within names (object_at store n).cells i
             (or_either (is_in (numbered store) n) (nat_eq n main_name) h
             (λ q. wider (object_at store n).cells (w.cells n q))

@@ -10,8 +10,8 @@ use Rattle.meaning_sound.specs.class_rules.declared.kind.Kind.TheVariants as kin
 use Rattle.meaning_sound.specs.class_rules.Table.{table_of, class_of, slot_in}
 use Rattle.meaning_sound.specs.class_rules.Refusal.{type_differs, self_update}
 use Rattle.meaning_sound.specs.class_rules.Scope.{Typing, Local as ALocal, Locals, kind_of, class_kind}
-use Rattle.meaning_sound.specs.class_rules.Expressions.{and_then, occurs, place_type}
-use Rattle.meaning_sound.specs.class_rules.Statements.{Verdict, passed, required, in_turn, receiver_kind, place_class, same_kind}
+use Rattle.meaning_sound.specs.class_rules.Expressions.{then_checked, occurs, place_type}
+use Rattle.meaning_sound.specs.class_rules.Statements.{Verdict, verdict_passed, required, in_turn, receiver_kind, place_class, same_kind}
 use Rattle.meaning_sound.specs.class_rules.Statements.{in_either_index, swap_rules, class_known, construct_rules, call_rules}
 use Rattle.meaning_sound.specs.class_rules.Statements.{receiver_class, slot_rules, test_rules, local_rules, with_local, with_object}
 use Rattle.meaning_sound.specs.class_rules.Statements.{check_statement, check_statements}
@@ -50,8 +50,8 @@ module _ (setting : Setting) (classes : KnowsClasses setting.program) (run : Run
   IsSound st = Sound setting extra shape class st
 
   construct_reached : (n at : ℕ) (of_class name : Ident) (body : Statements) (end : Ident) (st : State)
-      → construct_rules typing locals of_class name end ≡ passed
-      → check_statements typing (with_object typing locals of_class name) body ≡ passed → IsPlain body
+      → construct_rules typing locals of_class name end ≡ verdict_passed
+      → check_statements typing (with_object typing locals of_class name) body ≡ verdict_passed → IsPlain body
       → IsSound st → Reaches extra st → Ends (Reaches extra)
       (statement setting n run (Construct at of_class name body end) st)
   construct_reached n at of_class name body end st h checked plain s r =
@@ -67,11 +67,11 @@ module _ (setting : Setting) (classes : KnowsClasses setting.program) (run : Run
       (nil_end at (no_int_class (class_of typing.table of_class.text)))
       (in_turn_passes (check_statement typing inner first) (check_statements typing inner (joined body last)) made
       (check_joined typing inner body last checked (in_turn_passes
-      (check_statement typing inner (Delete at (AnObject of_class) (Whole name))) passed made refl)))
+      (check_statement typing inner (Delete at (AnObject of_class) (Whole name))) verdict_passed made refl)))
       ((tt, tt), plain_joined body last plain ((tt, tt), tt)) s r
 
   call_element_reached : (n at : ℕ) (back : Bool) (name : Ident) (index : Expression) (method : Ident)
-      (args : List Ident) (st : State) → call_rules typing locals at (Some (Item name index)) method args ≡ passed
+      (args : List Ident) (st : State) → call_rules typing locals at (Some (Item name index)) method args ≡ verdict_passed
       → HasWords index → IsNamed name → HasNames index → AreNamed args
       → IsSound st → Reaches extra st → Ends (Reaches extra)
       (statement setting n run (Call at back (Some (Item name index)) method args) st)
@@ -92,20 +92,20 @@ module _ (setting : Setting) (classes : KnowsClasses setting.program) (run : Run
       let swap_rest : Kind → Kind → Verdict = λ a b. in_turn (required (same_kind a b) (type_differs at))
       (required (not (in_either_index [] (Whole e) (Item name index) || in_either_index name.text (Whole e)
       (Item name index))) (self_update at)) in
-      let swapped : swap_rules typing inner at (Whole e) (Item name index) ≡ passed =
-      hands_on (place_type typing inner (Whole e)) (λ a. and_then (place_type typing inner (Item name index))
-      (λ b. swap_rest a b)) k passed receiver (hands_on (place_type typing inner (Item name index))
-      (λ b. swap_rest k b) k passed element
+      let swapped : swap_rules typing inner at (Whole e) (Item name index) ≡ verdict_passed =
+      hands_on (place_type typing inner (Whole e)) (λ a. then_checked (place_type typing inner (Item name index))
+      (λ b. swap_rest a b)) k verdict_passed receiver (hands_on (place_type typing inner (Item name index))
+      (λ b. swap_rest k b) k verdict_passed element
       (in_turn_passes (required (same_kind k k) (type_differs at)) _
       (required_passes _ (type_differs at) (same_as_itself k))
       (required_passes _ (self_update at) (ap (λ b. not (b || occurs name.text index))
       (not_in setting classes run keeps extra locals shape class inside means index indexes)
       ∙ ap not r.apart)))) in
-      let called : call_rules typing inner at (Some (Whole e)) method args ≡ passed =
+      let called : call_rules typing inner at (Some (Whole e)) method args ≡ verdict_passed =
       hands_on (receiver_class typing inner (Some (Whole e)))
       (λ c. slot_rules typing inner at (Some (Whole e)) method args c (slot_in typing.table c method.text)) r.static
-      passed
-      (hands_on (place_type typing inner (Whole e)) (λ x. and_then (receiver_kind at x) (place_class at (Whole e))) k
+      verdict_passed
+      (hands_on (place_type typing inner (Whole e)) (λ x. then_checked (receiver_kind at x) (place_class at (Whole e))) k
       (Ok r.static) receiver refl)
       (slots_under setting classes run keeps extra locals shape class inside means at k name index method args r.static
       all (slot_in typing.table r.static method.text) r.rules) in
@@ -115,10 +115,10 @@ module _ (setting : Setting) (classes : KnowsClasses setting.program) (run : Run
       (in_turn_passes (check_statement typing inner exchange)
       (check_statements typing inner (Then call (Then exchange End))) swapped
       (in_turn_passes (check_statement typing inner call) (check_statements typing inner (Then exchange End)) called
-      (in_turn_passes (check_statement typing inner exchange) passed swapped refl)))
+      (in_turn_passes (check_statement typing inner exchange) verdict_passed swapped refl)))
       ((tt, words), (tt, ((tt, words), tt))) s z
 
-  pub statement_reaches : (n : ℕ) (s : Statement) (st : State) → check_statement typing locals s ≡ passed
+  pub statement_reaches : (n : ℕ) (s : Statement) (st : State) → check_statement typing locals s ≡ verdict_passed
       → StatementIsPlain s → IsSound st → Reaches extra st → Ends (Reaches extra) (statement setting n run s st)
   statement_reaches n (Update at op target value) st h p s r =
       update_reached setting classes run keeps reaches extra locals shape class inside means n at op target value st h s
@@ -185,7 +185,7 @@ exec_reaches setting classes zero = record { by = by }
   where
     by : (extra : ℕ → ℕ) (locals shape : Locals) (class : ℕ) (body : Statements) (st : State)
         → class < length setting.program.classes → MeansSame locals shape
-        → check_statements (setting_in setting.program (table_of setting.program) class) locals body ≡ passed
+        → check_statements (setting_in setting.program (table_of setting.program) class) locals body ≡ verdict_passed
         → IsPlain body → Sound setting extra shape class st → Reaches extra st
         → Ends (Reaches extra) (exec setting zero body st)
     by extra locals shape class End st inside means h p s r = r
@@ -197,7 +197,7 @@ exec_reaches setting classes (suc n) = record {
     by : KeepsAll setting (exec setting n) → ReachesAll setting (exec setting n)
         → (extra : ℕ → ℕ) (locals shape : Locals) (class : ℕ) (body : Statements) (st : State)
         → class < length setting.program.classes → MeansSame locals shape
-        → check_statements (setting_in setting.program (table_of setting.program) class) locals body ≡ passed
+        → check_statements (setting_in setting.program (table_of setting.program) class) locals body ≡ verdict_passed
         → IsPlain body → Sound setting extra shape class st → Reaches extra st
         → Ends (Reaches extra) (exec setting (suc n) body st)
     by keeps reaches extra locals shape class End st inside means h p s r = r

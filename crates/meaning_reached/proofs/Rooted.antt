@@ -7,7 +7,7 @@ use Rattle.meaning_sound.specs.class_rules.declared.kind.Kind.{Kind}
 use Rattle.meaning_sound.specs.class_rules.declared.kind.Kind.TheVariants as kind
 use Rattle.meaning_sound.specs.class_rules.Table.{table_of}
 use Rattle.meaning_sound.specs.class_rules.Scope.{Typing, Locals, kind_in}
-use Rattle.meaning_sound.specs.class_rules.Expressions.{element_kind, element_of as element_type, index_is_int, variable_type}
+use Rattle.meaning_sound.specs.class_rules.Expressions.{element_kind, element_kind_of as element_type, index_is_int, variable_type}
 use Rattle.meaning_sound.specs.class_rules.Expressions.{type_of, place_type, first_token}
 use Rattle.meaning_sound.specs.class_rules.Program.{setting_in}
 use Rattle.meaning_sound.specs.roopl_semantics.Store.{Value, Word, Nil, Name, Store, State, number_of, object_at}
@@ -23,7 +23,7 @@ use Rattle.meaning_sound.proofs.Makes.{is_array}
 use Rattle.meaning_sound.proofs.Values.{variable_fits}
 use Rattle.meaning_sound.proofs.AfterWrites.{same_cell_is, read_other}
 use Rattle.meaning_sound.proofs.Moves.{IsOwn}
-use Rattle.meaning_reached.specs.Reached.{is_within, is_rooted, IsClosed}
+use Rattle.meaning_reached.specs.Reached.{is_value_within, is_rooted, IsClosed}
 
 pub array_of_element : (array k : Kind) → element_kind array ≡ Some k → (is_array array ≡ true) × (is_array k ≡ false)
 array_of_element kind.Int k h = absurd (cc)
@@ -132,17 +132,17 @@ visible_rooted p shape names extra st end k cell (own c o) h stays closed =
 visible_rooted p shape names extra st end k cell (element holder array n i o ha e r) h stays closed =
     let a = array_of_element array k e in
     let there = stays holder array ha a.0 a.1 ∙ r in
-    ap (is_within names) (sym there) ∙ closed.cells holder (own_rooted names extra end st.self holder closed h o)
+    ap (is_value_within names) (sym there) ∙ closed.cells holder (own_rooted names extra end st.self holder closed h o)
 
 -- a set that is closed after a write was so before, if it has what the cell held
 pub closed_before : (names : ℕ → Bool) (extra : ℕ → ℕ) (st : State) (cell : Cell) (v : Value)
-    → (is_rooted names cell ≡ true → is_within names (read st cell) ≡ true) → IsClosed names extra (written st cell v)
+    → (is_rooted names cell ≡ true → is_value_within names (read st cell) ≡ true) → IsClosed names extra (written st cell v)
     → IsClosed names extra st
 closed_before names extra st cell v was closed = record
     { extras = closed.extras; cells = λ d r. by d r (same_cell cell d) refl }
   where
-    by : (d : Cell) → is_rooted names d ≡ true → (s : Bool) → same_cell cell d ≡ s → is_within names (read st d) ≡ true
+    by : (d : Cell) → is_rooted names d ≡ true → (s : Bool) → same_cell cell d ≡ s → is_value_within names (read st d) ≡ true
     by d r true e =
         let q = same_cell_is cell d e in
-        ap (λ c. is_within names (read st c)) (sym q) ∙ was (ap (is_rooted names) q ∙ r)
-    by d r false e = ap (is_within names) (sym (read_other st cell d v e)) ∙ closed.cells d r
+        ap (λ c. is_value_within names (read st c)) (sym q) ∙ was (ap (is_rooted names) q ∙ r)
+    by d r false e = ap (is_value_within names) (sym (read_other st cell d v e)) ∙ closed.cells d r

@@ -20,7 +20,7 @@ use Rattle.meaning_sound.specs.class_rules.Table.{table_of, dispatch_in}
 use Rattle.meaning_sound.specs.class_rules.Refusal.{type_differs, unknown_name}
 use Rattle.meaning_sound.specs.class_rules.Scope.{Typing, Local, Locals, kind_in}
 use Rattle.meaning_sound.specs.class_rules.Expressions.{is_int, type_of, place_type}
-use Rattle.meaning_sound.specs.class_rules.Statements.{passed, required, same_kind, update_rules, swap_rules, make_rules, copy_rules}
+use Rattle.meaning_sound.specs.class_rules.Statements.{verdict_passed, required, same_kind, update_rules, swap_rules, make_rules, copy_rules}
 use Rattle.meaning_sound.specs.class_rules.Statements.{call_rules, check_statements}
 use Rattle.meaning_sound.specs.class_rules.Program.{setting_in}
 use Rattle.meaning_sound.specs.buddy_book.Place.{count_taken, place}
@@ -33,14 +33,14 @@ use Rattle.meaning_sound.specs.roopl_semantics.Value.{cell_of, NIL}
 use Rattle.meaning_sound.specs.roopl_semantics.Execution.{Setting, Runner, holds, LOOP, FI, DELOCAL, NOT_NIL}
 use Rattle.meaning_sound.specs.roopl_semantics.Execution.{COUNT, NOT_EMPTY, HEAP_FULL, CLASS_DIFFERS}
 use Rattle.meaning_sound.specs.roopl_semantics.Execution.{LENGTH_DIFFERS, LENGTH, NOT_SAME, TOO_DEEP}
-use Rattle.meaning_sound.specs.roopl_semantics.Execution.{same_cell, is_of_class, all_zero, allocated, freed, counted, one_less}
+use Rattle.meaning_sound.specs.roopl_semantics.Execution.{same_cell, is_of_class, all_zero, allocated, freed, count_changed, one_less}
 use Rattle.meaning_sound.specs.roopl_semantics.Execution.{new_array, delete_array, order_of_cells, opened, closed, with_local}
 use Rattle.meaning_sound.specs.roopl_semantics.Execution.{turn_end, turns, cells_named, class_of, is_too_deep, invoked, statement}
 use Rattle.meaning_sound.specs.roopl_semantics.Elements.{SHARED_ARRAY, elements, index_elements, own_element, share_array}
 use Rattle.meaning_sound.specs.roopl_semantics.Elements.{read_cost}
 use Rattle.meaning_sound.specs.roopl_semantics.Laws.{one_if_name}
 use Rattle.meaning_sound.specs.class_rules.Inheritance.{kind_of_var}
-use Rattle.meaning_sound.specs.Sound.{fits, cell_kinds, AllFit, cell_kind, Sound, Keeps, Typed}
+use Rattle.meaning_sound.specs.Sound.{is_of_kind, cell_kinds, AllFit, cell_kind, Sound, Keeps, Typed}
 use Rattle.meaning_sound.specs.Plain.{IsPlain}
 use Rattle.meaning_sound.specs.Kept.{MeansSame}
 use Rattle.meaning_sound.proofs.Stores.{none_above}
@@ -60,13 +60,13 @@ use Rattle.meaning_sound.proofs.Removal.{reference, one_name, not_less}
 use Rattle.meaning_sound.proofs.Makes.{zeros_fit, same_fit, made_place, no_int_takes, name_is, copy_parts}
 use Rattle.meaning_sound.proofs.Calls.{apart_after, all_apart_after, all_mean, args_have, apart_cells}
 use Rattle.meaning_sound.proofs.Calls.{all_apart_cells, all_own_cells, meant_own, call_parts, receiver_parts}
-use Rattle.meaning_reached.specs.Reached.{is_within, Reaches}
+use Rattle.meaning_reached.specs.Reached.{is_value_within, Reaches}
 use Rattle.meaning_reached.proofs.Rooted.{IsVisible, visible}
 use Rattle.meaning_reached.proofs.Changes.{cell_turned, opened_reaches, closed_reaches, write_reaches, swap_reaches}
 use Rattle.meaning_reached.proofs.Creations.{grown_reaches, shrunk_reaches, copy_reaches, uncopy_reaches}
 use Rattle.meaning_reached.proofs.Callings.{ReachesAll, ends_both, invoked_reaches}
 
-none_within : (names : ℕ → Bool) (v : Value) → HoldsNone v → is_within names v ≡ true
+none_within : (names : ℕ → Bool) (v : Value) → HoldsNone v → is_value_within names v ≡ true
 none_within names (Word w) h = refl
 none_within names Nil h = refl
 none_within names (Name n) h = absurd (let a = h n in let b = one_name n in omega arith)
@@ -98,14 +98,14 @@ module _ (setting : Setting) (classes : KnowsClasses setting.program) (run : Run
       (typed_of setting extra shape class st s) h) e
 
   -- a block that is run
-  ran : (body : Statements) (st : State) → check_statements typing locals body ≡ passed → IsPlain body → IsSound st
+  ran : (body : Statements) (st : State) → check_statements typing locals body ≡ verdict_passed → IsPlain body → IsSound st
       → Good st → Ends (λ end. Keeps setting extra shape class st end × Good end) (run body st)
   ran body st h p s r = ends_both (Keeps setting extra shape class st) Good (run body st)
       (keeps.by extra locals shape class body st inside means h p s)
       (reaches.by extra locals shape class body st inside means h p s r)
 
   pub update_reached : (n at : ℕ) (op : UpdateOp) (target : Lvalue) (value : Expression) (st : State)
-      → update_rules typing locals at target value ≡ passed → IsSound st → Good st
+      → update_rules typing locals at target value ≡ verdict_passed → IsSound st → Good st
       → Ends Good (statement setting n run (Update at op target value) st)
   update_reached n at op target value st h s r =
       let t = typed_of setting extra shape class st s in
@@ -124,9 +124,9 @@ module _ (setting : Setting) (classes : KnowsClasses setting.program) (run : Run
       let word = Word (updated op (number_of (read st cell)) (number_of x)) in
       ends_checked Good (read_cost changed reads) SHARED_ARRAY (share_array program st changed reads)
       (λ u. give (written st cell word)) (λ q.
-      write_reaches setting extra shape class st cell word (λ names c q. ap (is_within names) was.is) r)))
+      write_reaches setting extra shape class st cell word (λ names c q. ap (is_value_within names) was.is) r)))
 
-  pub swap_reached : (n at : ℕ) (left right : Lvalue) (st : State) → swap_rules typing locals at left right ≡ passed
+  pub swap_reached : (n at : ℕ) (left right : Lvalue) (st : State) → swap_rules typing locals at left right ≡ verdict_passed
       → IsSound st → Good st → Ends Good (statement setting n run (Swap at left right) st)
   swap_reached n at left right st h s r =
       let t = typed_of setting extra shape class st s in
@@ -156,20 +156,20 @@ module _ (setting : Setting) (classes : KnowsClasses setting.program) (run : Run
   chosen P false taken other h k = k
 
   pub if_reached : (n at : ℕ) (test : Expression) (taken other : Statements) (after : Expression) (st : State)
-      → check_statements typing locals taken ≡ passed → check_statements typing locals other ≡ passed → IsPlain taken
+      → check_statements typing locals taken ≡ verdict_passed → check_statements typing locals other ≡ verdict_passed → IsPlain taken
       → IsPlain other
       → IsSound st → Good st → Ends Good (statement setting n run (If at test taken other after) st)
   if_reached n at test taken other after st ht ho pt po s r =
       ends_given Good (nodes test) (value_in program st test) _ (λ v e.
       ends_then Good Good (run (if holds v then taken else other) st) _
       (reaches.by extra locals shape class (if holds v then taken else other) st inside means
-      (chosen (λ b. check_statements typing locals b ≡ passed) (holds v) taken other ht ho)
+      (chosen (λ b. check_statements typing locals b ≡ verdict_passed) (holds v) taken other ht ho)
       (chosen IsPlain (holds v) taken other pt po) s r)
       (λ end k. ends_given Good (nodes after) (value_in program end after) _
       (λ w f. ends_check Good FI (if holds v then not (holds w) else holds w) (λ x. give end) (λ q. k))))
 
   turn_end_reached : (entry : Expression) (again : Statements) (next : State → Run State)
-      → check_statements typing locals again ≡ passed → IsPlain again
+      → check_statements typing locals again ≡ verdict_passed → IsPlain again
       → ((st : State) → IsSound st → Good st → Ends Good (next st)) → (exits : Bool) (st : State) → IsSound st → Good st
       → Ends Good (turn_end setting run entry again next exits st)
   turn_end_reached entry again next h p rest true st s r = r
@@ -179,7 +179,7 @@ module _ (setting : Setting) (classes : KnowsClasses setting.program) (run : Run
       (λ v f. ends_check Good LOOP (holds v) (λ x. next end) (λ q. rest end e.0.sound e.1)))
 
   turns_reached : (n : ℕ) (entry : Expression) (first again : Statements) (exit : Expression)
-      → check_statements typing locals first ≡ passed → check_statements typing locals again ≡ passed → IsPlain first
+      → check_statements typing locals first ≡ verdict_passed → check_statements typing locals again ≡ verdict_passed → IsPlain first
       → IsPlain again → (st : State) → IsSound st → Good st → Ends Good (turns setting n run entry first again exit st)
   turns_reached zero entry first again exit hf ha pf pa st s r = tt
   turns_reached (suc n) entry first again exit hf ha pf pa st s r =
@@ -190,7 +190,7 @@ module _ (setting : Setting) (classes : KnowsClasses setting.program) (run : Run
       (turns_reached n entry first again exit hf ha pf pa) (holds v) end e.0.sound e.1))
 
   pub from_reached : (n at : ℕ) (entry : Expression) (first again : Statements) (exit : Expression) (st : State)
-      → check_statements typing locals first ≡ passed → check_statements typing locals again ≡ passed → IsPlain first
+      → check_statements typing locals first ≡ verdict_passed → check_statements typing locals again ≡ verdict_passed → IsPlain first
       → IsPlain again
       → IsSound st → Good st → Ends Good (statement setting n run (From at entry first again exit) st)
   from_reached n at entry first again exit st hf ha pf pa s r =
@@ -201,7 +201,7 @@ module _ (setting : Setting) (classes : KnowsClasses setting.program) (run : Run
   pub with_local_reached : (name : List ℕ) (k : Kind) (value : Expression) (body : Statements) (end_value : Expression)
       (st : State)
       → IsLocalEnd typing locals name k value → IsLocalEnd typing locals name k end_value
-      → check_statements typing (record { name = name; kind = k } ∷ locals) body ≡ passed → IsPlain body
+      → check_statements typing (record { name = name; kind = k } ∷ locals) body ≡ verdict_passed → IsPlain body
       → IsSound st → Good st → Ends Good (with_local setting run name value body end_value st)
   with_local_reached name k value body end_value st first last checked plain s r =
       let l : Local = record { name = name; kind = k } in
@@ -222,7 +222,7 @@ module _ (setting : Setting) (classes : KnowsClasses setting.program) (run : Run
       let no_name = ends_with setting classes run keeps extra locals shape class inside means end name k end_value w te
       last f in
       let same : value_at end.frame 0 ≡ w = same_value_is (value_at end.frame 0) w (passes_not _ q) in
-      closed_reaches extra end (λ names. ap (is_within names) same ∙ none_within names w no_name) kept.1))))
+      closed_reaches extra end (λ names. ap (is_value_within names) same ∙ none_within names w no_name) kept.1))))
 
   -- ---- new
 
@@ -246,7 +246,7 @@ module _ (setting : Setting) (classes : KnowsClasses setting.program) (run : Run
         read_bigger setting extra shape class st head cells holder array t ha,
         cell_bigger setting extra shape class st head cells holder array t ha,
       ))
-      (ap (is_within (λ n. false)) (read_bigger setting extra shape class st head cells cell k t h
+      (ap (is_value_within (λ n. false)) (read_bigger setting extra shape class st head cells cell k t h
       ∙ nil_is (read st cell) empty)) r))
     where
       second : (a : Bool) {b : Bool} → (a || b) ≡ false → b ≡ false
@@ -260,7 +260,7 @@ module _ (setting : Setting) (classes : KnowsClasses setting.program) (run : Run
       big = bigger setting extra shape class st head cells
 
   pub new_object_reached : (n at : ℕ) (name : Ident) (target : Lvalue) (st : State)
-      → make_rules typing locals at (AnObject name) target ≡ passed → IsSound st → Good st
+      → make_rules typing locals at (AnObject name) target ≡ verdict_passed → IsSound st → Good st
       → Ends Good (statement setting n run (New at (AnObject name) target) st)
   new_object_reached n at name target st h s r =
       let p = made_place typing locals at (AnObject name) target h in
@@ -285,7 +285,7 @@ module _ (setting : Setting) (classes : KnowsClasses setting.program) (run : Run
   new_array_reached : (target : Lvalue) (size : Expression) (head : ℕ → Head) (element : Value) (k : Kind)
       (elements : Kind) (st : State) → place_type typing locals target ≡ Ok k
       → ((n : ℕ) → cell_kinds program (head n) ≡ replicate n elements)
-      → ((store : Store) → fits program store element elements ≡ true)
+      → ((store : Store) → is_of_kind program store element elements ≡ true)
       → IsSound st → Good st → Ends Good (new_array setting target size head element st)
   new_array_reached target size head element k elements st h kinds element_fits s r =
       ends_given Good (index_nodes target) (cell_of program st target) _ (λ cell e.
@@ -311,14 +311,14 @@ module _ (setting : Setting) (classes : KnowsClasses setting.program) (run : Run
           (λ st'. spend n >>= (λ z. give st'))))
 
   pub new_ints_reached : (n at : ℕ) (size : Expression) (target : Lvalue) (st : State)
-      → make_rules typing locals at (Ints size) target ≡ passed → IsSound st → Good st
+      → make_rules typing locals at (Ints size) target ≡ verdict_passed → IsSound st → Good st
       → Ends Good (statement setting n run (New at (Ints size) target) st)
   new_ints_reached n at size target st h s r =
       let p = made_place typing locals at (Ints size) target h in
       new_array_reached target size OfInts (Word 0) p.type kind.Int st p.is (λ n. refl) (λ store. refl) s r
 
   pub new_objects_reached : (n at : ℕ) (name : Ident) (size : Expression) (target : Lvalue) (st : State)
-      → make_rules typing locals at (Objects name size) target ≡ passed → IsSound st → Good st
+      → make_rules typing locals at (Objects name size) target ≡ verdict_passed → IsSound st → Good st
       → Ends Good (statement setting n run (New at (Objects name size) target) st)
   new_objects_reached n at name size target st h s r =
       let p = made_place typing locals at (Objects name size) target h in
@@ -340,7 +340,7 @@ module _ (setting : Setting) (classes : KnowsClasses setting.program) (run : Run
       (not_less _ zeros) r
 
   pub delete_object_reached : (n at : ℕ) (name : Ident) (target : Lvalue) (st : State)
-      → make_rules typing locals at (AnObject name) target ≡ passed → IsSound st → Good st
+      → make_rules typing locals at (AnObject name) target ≡ verdict_passed → IsSound st → Good st
       → Ends Good (statement setting n run (Delete at (AnObject name) target) st)
   delete_object_reached n at name target st h s r =
       let p = made_place typing locals at (AnObject name) target h in
@@ -384,7 +384,7 @@ module _ (setting : Setting) (classes : KnowsClasses setting.program) (run : Run
       gone st cell k s (there st target k cell s h e) no_int q w r)))))))
 
   pub delete_ints_reached : (n at : ℕ) (size : Expression) (target : Lvalue) (st : State)
-      → make_rules typing locals at (Ints size) target ≡ passed → IsSound st → Good st
+      → make_rules typing locals at (Ints size) target ≡ verdict_passed → IsSound st → Good st
       → Ends Good (statement setting n run (Delete at (Ints size) target) st)
   delete_ints_reached n at size target st h s r =
       let p = made_place typing locals at (Ints size) target h in
@@ -392,7 +392,7 @@ module _ (setting : Setting) (classes : KnowsClasses setting.program) (run : Run
       r
 
   pub delete_objects_reached : (n at : ℕ) (name : Ident) (size : Expression) (target : Lvalue) (st : State)
-      → make_rules typing locals at (Objects name size) target ≡ passed → IsSound st → Good st
+      → make_rules typing locals at (Objects name size) target ≡ verdict_passed → IsSound st → Good st
       → Ends Good (statement setting n run (Delete at (Objects name size) target) st)
   delete_objects_reached n at name size target st h s r =
       let p = made_place typing locals at (Objects name size) target h in
@@ -406,7 +406,7 @@ module _ (setting : Setting) (classes : KnowsClasses setting.program) (run : Run
   copy_reached n at of_type source target st r =
       ends_given Good (index_nodes source) (cell_of program st source) _ (λ a e.
       ends_given Good (index_nodes target) (cell_of program st target) _ (λ b f.
-      let end : Unit {0} → Run State = λ x. give (counted suc (written st b (read st a)) (number_of (read st a))) in
+      let end : Unit {0} → Run State = λ x. give (count_changed suc (written st b (read st a)) (number_of (read st a))) in
       let changed = own_element target in
       let reads = index_elements source ++ index_elements target in
       let rest : Unit {0} → Run State = λ x. fault_if NOT_NIL (not (is_nil (read st b))) >>= end in
@@ -417,13 +417,13 @@ module _ (setting : Setting) (classes : KnowsClasses setting.program) (run : Run
       copy_reaches setting extra shape class st b (read st a) (number_of (read st a)) (nil_is (read st b) z) r)))))
 
   pub uncopy_reached : (n at : ℕ) (of_type : VarType) (source target : Lvalue) (st : State)
-      → copy_rules typing locals at of_type source target ≡ passed → IsSound st → Good st
+      → copy_rules typing locals at of_type source target ≡ verdict_passed → IsSound st → Good st
       → Ends Good (statement setting n run (Uncopy at of_type source target) st)
   uncopy_reached n at of_type source target st h s r =
       let p = copy_parts setting classes run extra locals shape class inside means at of_type source target h in
       ends_given Good (index_nodes source) (cell_of program st source) _ (λ a e.
       ends_given Good (index_nodes target) (cell_of program st target) _ (λ b f.
-      let end : Unit {0} → Run State = λ x. give (counted one_less (written st b Nil) (number_of (read st a))) in
+      let end : Unit {0} → Run State = λ x. give (count_changed one_less (written st b Nil) (number_of (read st a))) in
       let changed = own_element target in
       let reads = index_elements source ++ index_elements target in
       let rest : Unit {0} → Run State = λ x. fault_if NOT_SAME
@@ -445,7 +445,7 @@ module _ (setting : Setting) (classes : KnowsClasses setting.program) (run : Run
   -- ---- calls
 
   pub call_self_reached : (n at : ℕ) (back : Bool) (method : Ident) (args : List Ident) (st : State)
-      → call_rules typing locals at None method args ≡ passed → IsSound st → Good st
+      → call_rules typing locals at None method args ≡ verdict_passed → IsSound st → Good st
       → Ends Good (statement setting n run (Call at back None method args) st)
   call_self_reached n at back method args st h s r =
       let t = typed_of setting extra shape class st s in
@@ -474,7 +474,7 @@ module _ (setting : Setting) (classes : KnowsClasses setting.program) (run : Run
       }) r)))
 
   pub call_object_reached : (n at : ℕ) (back : Bool) (name method : Ident) (args : List Ident) (st : State)
-      → call_rules typing locals at (Some (Whole name)) method args ≡ passed → IsSound st → Good st
+      → call_rules typing locals at (Some (Whole name)) method args ≡ verdict_passed → IsSound st → Good st
       → Ends Good (statement setting n run (Call at back (Some (Whole name)) method args) st)
   call_object_reached n at back name method args st h s z =
       let t = typed_of setting extra shape class st s in
@@ -503,7 +503,7 @@ module _ (setting : Setting) (classes : KnowsClasses setting.program) (run : Run
       let nm = reference program st.store (read st cell) (kind.Class r.static) fit refl u in
       let is_name = name_is (read st cell) nm in
       let object = is_object program r.static st.store self
-      (subst (λ v. fits program st.store v (kind.Class r.static) ≡ true) is_name fit) in
+      (subst (λ v. is_of_kind program st.store v (kind.Class r.static) ≡ true) is_name fit) in
       subst (λ c. Ends Good (invoked setting run back (method_named program c method.text) self (cell ∷ []) cells st))
       (sym object.class_is)
       (invoked_reaches setting classes run keeps reaches extra shape class back

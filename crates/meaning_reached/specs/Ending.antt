@@ -6,7 +6,7 @@ use Rattle.meaning_sound.specs.rpp_words.declared.input.Limits.{Limits}
 use Rattle.meaning_sound.specs.rpp_tree.Tree.{Statements, Source}
 use Rattle.meaning_sound.specs.class_rules.Scope.{Locals}
 use Rattle.meaning_sound.specs.class_rules.Table.{table_of}
-use Rattle.meaning_sound.specs.class_rules.Statements.{passed, check_statements}
+use Rattle.meaning_sound.specs.class_rules.Statements.{verdict_passed, check_statements}
 use Rattle.meaning_sound.specs.class_rules.Program.{IsAccepted, setting_in}
 use Rattle.meaning_sound.specs.roopl_semantics.Run.{Done}
 use Rattle.meaning_sound.specs.roopl_semantics.Store.{Store, State, main_name}
@@ -30,7 +30,7 @@ ExecutionReaches =
     (body : Statements) (start end : State) (cost : ℕ)
     → IsAccepted program
     → class < length program.classes → MeansSame locals shape
-    → check_statements (setting_in program (table_of program) class) locals body ≡ passed
+    → check_statements (setting_in program (table_of program) class) locals body ≡ verdict_passed
     → IsPlain body
     → Sound (record { program = program; limits = limits }) extra shape class start
     → Reaches extra start
@@ -38,7 +38,7 @@ ExecutionReaches =
     → Reaches extra end
 
 -- a store in which the report's walk from the main object meets every other live object
-pub record IsReached (program : Source) (store : Store) : Type 0 where
+pub record IsStoreReached (program : Source) (store : Store) : Type 0 where
   pub met : (name : ℕ) → is_live store name ≡ true → name ≢ main_name
       → list_any (nat_eq name) (numbered store) ≡ true
   pub lives : (name : ℕ) → list_any (nat_eq name) (numbered store) ≡ true
@@ -54,4 +54,4 @@ EndsReached =
     (program : Source) (limits : Limits) (input : List FieldWord) (fuel : ℕ) (end : State)
     (cost : ℕ)
     → IsAccepted program → IsLimits limits → IsValid program input
-    → source program limits input fuel ≡ Done end cost → IsReached program end.store
+    → source program limits input fuel ≡ Done end cost → IsStoreReached program end.store

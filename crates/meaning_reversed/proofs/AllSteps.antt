@@ -8,7 +8,7 @@ use Rattle.meaning_machine.specs.roopl_semantics.Store.{State}
 use Rattle.meaning_machine.specs.roopl_semantics.Execution.{Setting}
 use Rattle.meaning_inverse.specs.meaning_sound.Sound.{Descending}
 use Rattle.meaning_machine.specs.Machine.{Config, Open, begun, next}
-use Rattle.meaning_machine.specs.MachineLaws.{gone, before}
+use Rattle.meaning_machine.specs.MachineLaws.{gone_past, config_before}
 use Rattle.meaning_inverse.proofs.Runs.{runs_end, runs_then}
 use Rattle.meaning_inverse.proofs.Later.{Ends}
 use Rattle.meaning_inverse.proofs.Ground.{Ground}
@@ -26,10 +26,10 @@ module _ (setting : Setting) (G : Ground setting)
   module _ (n : ℕ) (ih : BlocksBack setting G n) (k : ℕ) (le : k ≤ n) (C : G.Context) (past rest : Statements)
       (params : ℕ) (around : List Open) (st : State) (good : G.Good C st) where
     abbrev here : Statement → Config
-    here s = before past (Then s rest) params around st
+    here s = config_before past (Then s rest) params around st
 
     abbrev On : Statement → Type 0
-    On s = OnPast setting k s st (before (Then s past) rest params around)
+    On s = OnPast setting k s st (config_before (Then s past) rest params around)
 
     -- a call, its method, and all that comes after it
     through : (s : Statement) → ((y : Config) (c : ℕ) → next setting (here s) ≡ Done y c
@@ -39,14 +39,14 @@ module _ (setting : Setting) (G : Ground setting)
       where
         by : (y : Config) → CallOpened setting G past rest params around st s y → Leads setting k (here s) y
         by y o =
-            let begin : before End y.rest y.params y.around y.state ≡ y = ap (λ p. record y { past = p }) (sym o.fresh)
+            let begin : config_before End y.rest y.params y.around y.state ≡ y = ap (λ p. record y { past = p }) (sym o.fresh)
             in (
               o.undone,
               subst (AllBack setting k) begin (ih k le o.inner End y.rest y.params y.around y.state o.typed o.good
                   (λ j lj end cost runs.
-                  let z = before (gone y.rest End) End y.params y.around end in
+                  let z = config_before (gone_past y.rest End) End y.params y.around end in
                   step_by_step setting j z (λ i li. record {
-                    by = λ q d f. (let l = o.leaves (gone y.rest End) end cost (unwound_gone y.rest End) runs q d f in (
+                    by = λ q d f. (let l = o.leaves (gone_past y.rest End) end cost (unwound_gone y.rest End) runs q d f in (
                       l.undone,
                       subst (AllBack setting i) (sym l.is) (on i (omega arith) l.end l.cost l.does),
                     ));

@@ -7,7 +7,7 @@ use Rattle.meaning_machine.specs.roopl_semantics.Store.{Value, State}
 use Rattle.meaning_machine.specs.roopl_semantics.Value.{evaluated}
 use Rattle.meaning_machine.specs.roopl_semantics.Execution.{Setting, exec, holds, FI, LOOP, turn_end, turns}
 use Rattle.meaning_machine.specs.Machine.{Open, Chosen, First, Again, inside, turned_first, left, begun}
-use Rattle.meaning_machine.specs.MachineLaws.{gone, before}
+use Rattle.meaning_machine.specs.MachineLaws.{gone_past, config_before}
 use Rattle.meaning_machine.proofs.Back.{if_entered, if_left, loop_entered, loop_left, loop_again, loop_turned}
 use Rattle.meaning_inverse.proofs.Runs.{Runs, Does, done_then, passes}
 use Rattle.meaning_inverse.proofs.Later.{Ends, ends_on, ends_done}
@@ -105,13 +105,13 @@ module _ (setting : Setting) where
     -- a choice, and all that comes after it
     pub if_back : (k : ℕ) → k ≤ n → (st : State) (at : ℕ) (test : Expression) (taken other : Statements)
         (last : Expression)
-        → let s = If at test taken other last in let x = before past (Then s rest) params around st in
+        → let s = If at test taken other last in let x = config_before past (Then s rest) params around st in
         G.Typed C (Then s End) → G.Good C st
-        → OnPast setting k s st (before (Then s past) rest params around)
+        → OnPast setting k s st (config_before (Then s past) rest params around)
         → Ends (begun setting x s rest) (Leads setting k x)
     if_back k le st at test taken other last typed good on =
         let s = If at test taken other last in
-        let x = before past (Then s rest) params around st in
+        let x = config_before past (Then s rest) params around st in
         ends_on (evaluated setting.program test st) (λ v. give (inside x s rest (Chosen (holds v) test last)
         (if holds v then taken else other) st)) _ (Leads setting k x) (ends_valued setting test st) (λ v e.
         let b = if holds v then taken else other in
@@ -121,7 +121,7 @@ module _ (setting : Setting) where
               (if_entered setting past rest params around st at test taken other last v (nodes test) e),
           ih k le C End b params (o ∷ around) st (chosen_typed (holds v) taken other
               (G.branches C at test taken other last typed)) good (λ j lj end cost runs.
-              let z = before (gone b End) End params (o ∷ around) end in
+              let z = config_before (gone_past b End) End params (o ∷ around) end in
               let y = left o around params end in
               step_by_step setting j z (λ i li.
               ends_on (evaluated setting.program last end) (λ w. fault_if FI
@@ -130,7 +130,7 @@ module _ (setting : Setting) where
               ends_on (fault_if FI (if holds v then not (holds w) else holds w)) (λ u. give y) _
               (Leads setting i z) (checked_ends FI (if holds v then not (holds w) else holds w)) (λ u agree.
               ends_done y 0 (Leads setting i z) (
-                leads setting z y refl (if_left setting (gone b End) past rest params around end at test taken other
+                leads setting z y refl (if_left setting (gone_past b End) past rest params around end at test taken other
                     last (holds v) w (nodes last) (unwound_gone b End) f agree),
                 on i (omega arith) end (nodes test + (cost + nodes last))
                     (if_does at test taken other last st end v w cost e runs f agree),
@@ -151,14 +151,14 @@ module _ (setting : Setting) where
       -- the iterations of a loop, and all that comes after it
       loop_back : (bound : ℕ) (k : ℕ) → k ≤ bound → k ≤ n → (st : State) → G.Good C st
           → ((i : ℕ) → i ≤ k → (end : State) (cost : ℕ) → Turns entry one two exit st end cost
-          → AllBack setting i (before (Then loop past) rest params around end))
-          → AllBack setting k (before End one params (in_one ∷ around) st)
+          → AllBack setting i (config_before (Then loop past) rest params around end))
+          → AllBack setting k (config_before End one params (in_one ∷ around) st)
       loop_back zero zero lb le st good on = tt
       loop_back zero (suc k) lb le st good on = absurd (omega arith)
       loop_back (suc bound) k lb le st good on =
           ih k le C End one params (in_one ∷ around) st (G.turns C at entry one two exit typed).0 good
           (λ j lj mid c runs.
-          let z = before (gone one End) End params (in_one ∷ around) mid in
+          let z = config_before (gone_past one End) End params (in_one ∷ around) mid in
           step_by_step setting j z (λ i li.
           ends_on (evaluated setting.program exit mid) (λ v. give (turned_first setting z in_one around
           (Again entry one two exit) two (holds v))) _ (Leads setting i z) (ends_valued setting exit mid)
@@ -171,27 +171,27 @@ module _ (setting : Setting) where
               → G.Good C mid → evaluated setting.program exit mid ≡ Done v (nodes exit)
               → ((k : ℕ) → k ≤ bound → k ≤ n → (st : State) → G.Good C st
               → ((i : ℕ) → i ≤ k → (end : State) (cost : ℕ) → Turns entry one two exit st end cost
-              → AllBack setting i (before (Then loop past) rest params around end))
-              → AllBack setting k (before End one params (in_one ∷ around) st))
+              → AllBack setting i (config_before (Then loop past) rest params around end))
+              → AllBack setting k (config_before End one params (in_one ∷ around) st))
               → (t : Bool) → holds v ≡ t
-              → let z = before (gone one End) End params (in_one ∷ around) mid in
+              → let z = config_before (gone_past one End) End params (in_one ∷ around) mid in
               Leads setting i z (turned_first setting z in_one around (Again entry one two exit) two t)
           turned j i mid c v lj li runs good_mid e more true out =
-              let z = before (gone one End) End params (in_one ∷ around) mid in (
+              let z = config_before (gone_past one End) End params (in_one ∷ around) mid in (
                 leads setting z (left in_one around params mid) refl
-                    (loop_left setting past rest params around mid at entry one two exit (gone one End) v (nodes exit)
+                    (loop_left setting past rest params around mid at entry one two exit (gone_past one End) v (nodes exit)
                     (unwound_gone one End) e out),
                 on i (omega arith) mid (c + nodes exit) (turn_last entry one two exit st mid v c runs e out),
               )
           turned j i mid c v lj li runs good_mid e more false stay =
-              let z = before (gone one End) End params (in_one ∷ around) mid in (
-                leads setting z (before End two params (in_two ∷ around) mid) refl
-                    (loop_again setting past rest params around mid at entry one two exit (gone one End) v (nodes exit)
+              let z = config_before (gone_past one End) End params (in_one ∷ around) mid in (
+                leads setting z (config_before End two params (in_two ∷ around) mid) refl
+                    (loop_again setting past rest params around mid at entry one two exit (gone_past one End) v (nodes exit)
                     (unwound_gone one End) e stay),
                 ih i (omega arith) C End two params (in_two ∷ around) mid (G.turns C at entry one two exit typed).1
                     good_mid (λ p lp next d again.
-                    let q = before (gone two End) End params (in_two ∷ around) next in
-                    let y = before End one params (in_one ∷ around) next in
+                    let q = config_before (gone_past two End) End params (in_two ∷ around) next in
+                    let y = config_before End one params (in_one ∷ around) next in
                     step_by_step setting p q (λ r lr.
                     ends_on (evaluated setting.program entry next) (λ w. fault_if LOOP (holds w) >>=
                     (λ u. give y)) _ (Leads setting r q) (ends_valued setting entry next) (λ w f.
@@ -199,7 +199,7 @@ module _ (setting : Setting) where
                     (checked_ends LOOP (holds w)) (λ u enters.
                     ends_done y 0 (Leads setting r q) (
                       leads setting q y refl (loop_turned setting past rest params around next at entry one two exit
-                          (gone two End) w (nodes entry) (unwound_gone two End) f enters),
+                          (gone_past two End) w (nodes entry) (unwound_gone two End) f enters),
                       more r (omega arith) (omega arith) next
                           (good_behind setting G C two mid next d (G.turns C at entry one two exit typed).1 good_mid
                           again) (λ a la end cost turns.
@@ -211,12 +211,12 @@ module _ (setting : Setting) where
 
       -- a loop, and all that comes after it
       pub from_back : (k : ℕ) → k ≤ n → (st : State) → G.Good C st
-          → OnPast setting k loop st (before (Then loop past) rest params around)
-          → let x = before past (Then loop rest) params around st in
+          → OnPast setting k loop st (config_before (Then loop past) rest params around)
+          → let x = config_before past (Then loop rest) params around st in
           Ends (begun setting x loop rest) (Leads setting k x)
       from_back k le st good on =
-          let x = before past (Then loop rest) params around st in
-          let y = before End one params (in_one ∷ around) st in
+          let x = config_before past (Then loop rest) params around st in
+          let y = config_before End one params (in_one ∷ around) st in
           ends_on (evaluated setting.program entry st) (λ v. fault_if LOOP (not (holds v)) >>= (λ u. give y)) _
           (Leads setting k x) (ends_valued setting entry st) (λ v e.
           ends_on (fault_if LOOP (not (holds v))) (λ u. give y) _ (Leads setting k x)

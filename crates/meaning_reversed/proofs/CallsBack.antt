@@ -15,7 +15,7 @@ use Rattle.meaning_machine.specs.roopl_semantics.Execution.{Setting, statement, 
 use Rattle.meaning_machine.specs.roopl_semantics.Execution.{in_direction}
 use Rattle.meaning_machine.specs.roopl_semantics.Execution.{invoked}
 use Rattle.meaning_machine.specs.Machine.{Config, Open, Calling, entered, next}
-use Rattle.meaning_machine.specs.MachineLaws.{before}
+use Rattle.meaning_machine.specs.MachineLaws.{config_before}
 use Rattle.meaning_machine.specs.Turned.{each_undone, turned_open, turn, unwound}
 use Rattle.meaning_machine.proofs.Back.{call_entered, undone_block}
 use Rattle.meaning_inverse.proofs.Runs.{in_parts, done_then, done_result, Runs, Does, does_of}
@@ -34,7 +34,7 @@ pub record CallLeft (setting : Setting) (past rest : Statements) (params : ℕ) 
     (s : Statement) (x z : Config) : Type 0 where
   pub end : State
   pub cost : ℕ
-  pub is : z ≡ before (Then s past) rest params around end
+  pub is : z ≡ config_before (Then s past) rest params around end
   pub does : Does setting s st end cost
   pub undone : LeadsTo setting x z
 
@@ -42,7 +42,7 @@ pub record CallLeft (setting : Setting) (past rest : Statements) (params : ℕ) 
 -- undone; and so is the step from after that block
 pub record CallOpened (setting : Setting) (G : Ground setting) (past rest : Statements) (params : ℕ)
     (around : List Open) (st : State) (s : Statement) (y : Config) : Type 0 where
-  pub undone : LeadsTo setting (before past (Then s rest) params around st) y
+  pub undone : LeadsTo setting (config_before past (Then s rest) params around st) y
   pub fresh : y.past ≡ End
   pub within : is_over End y.around ≡ false
   pub inner : G.Context
@@ -50,8 +50,8 @@ pub record CallOpened (setting : Setting) (G : Ground setting) (past rest : Stat
   pub good : G.Good inner y.state
   pub leaves : (p : Statements) (end : State) (cost : ℕ) → unwound p End ≡ y.rest
       → Runs setting y.rest y.state end cost
-      → (z : Config) (c : ℕ) → next setting (before p End y.params y.around end) ≡ Done z c
-      → CallLeft setting past rest params around st s (before p End y.params y.around end) z
+      → (z : Config) (c : ℕ) → next setting (config_before p End y.params y.around end) ≡ Done z c
+      → CallLeft setting past rest params around st s (config_before p End y.params y.around end) z
 
 -- a call runs a method, and its inverse enters the same method of the same object with the same
 -- cells, wherever those of the receiver hold what they held
@@ -82,7 +82,7 @@ module _ (setting : Setting) (G : Ground setting) (C : G.Context) (past rest : S
     (facts : CallFacts setting G.Context G.Good G.Typed C st direction method self receiver args)
   where
     abbrev here : Config
-    here = before past (Then s rest) params around st
+    here = config_before past (Then s rest) params around st
 
     abbrev there : Config
     there = entered setting here s rest direction method self receiver args
@@ -114,7 +114,7 @@ module _ (setting : Setting) (G : Ground setting) (C : G.Context) (past rest : S
         (placed : unwound p End ≡ in_direction direction method.body)
         (runs : Runs setting (in_direction direction method.body) there.state end cost) where
       abbrev leaving : Config
-      leaving = before p End there.params there.around end
+      leaving = config_before p End there.params there.around end
 
       abbrev values : List Value
       values = map (read st) receiver ++ map (λ binding. binding.value) end.frame
@@ -198,7 +198,7 @@ module _ (setting : Setting) (G : Ground setting) (C : G.Context) (past rest : S
         frame_again = ap (bound method.params) given ∙ rebound method.params end.frame names_end
 
         abbrev behind : Config
-        behind = before (Then s past) rest params around b
+        behind = config_before (Then s past) rest params around b
 
         -- where the inverse call enters, by what it makes of the caller
         abbrev into : Statements → ℕ → List Binding → ℕ → ℕ → State → List Value → Config
@@ -256,7 +256,7 @@ module _ (setting : Setting) (G : Ground setting) (C : G.Context) (past rest : S
       leaves : (z : Config) (c : ℕ) → next setting leaving ≡ Done z c
           → CallLeft setting past rest params around st s leaving z
       leaves z c e =
-          let behind_it : State → Config = λ b. before (Then s past) rest params around b in
+          let behind_it : State → Config = λ b. config_before (Then s past) rest params around b in
           let one = in_parts (moved_back (receiver ++ args) values mid) (λ b. give (behind_it b)) z c
           e in
           let is : behind_it one.middle ≡ z = done_result (behind_it one.middle) z 0 one.after

@@ -15,7 +15,7 @@ use Rattle.meaning_machine.specs.roopl_semantics.Execution.{Setting, exec, invok
 use Rattle.meaning_machine.specs.roopl_semantics.Execution.{is_too_deep}
 use Rattle.meaning_machine.specs.roopl_semantics.Execution.{TOO_DEEP}
 use Rattle.meaning_machine.specs.Machine.{Config, Open, entered, next}
-use Rattle.meaning_machine.specs.MachineLaws.{before}
+use Rattle.meaning_machine.specs.MachineLaws.{config_before}
 use Rattle.meaning_inverse.proofs.Runs.{in_parts, done_then, done_result, passed_check, passes}
 use Rattle.meaning_inverse.proofs.Later.{Later}
 use Rattle.meaning_inverse.proofs.Ground.{Ground, IsLive}
@@ -89,10 +89,10 @@ module _ (setting : Setting) (G : Ground setting) (C : G.Context) (at : ℕ) (di
 
   own_opened : (past rest : Statements) (params : ℕ) (around : List Open) (y : Config) (c : ℕ)
       → G.Typed C (Then own_call End)
-      → next setting (before past (Then own_call rest) params around st) ≡ Done y c
+      → next setting (config_before past (Then own_call rest) params around st) ≡ Done y c
       → CallOpened setting G past rest params around st own_call y
   own_opened past rest params around y c typed e =
-      let x : Config = before past (Then own_call rest) params around st in
+      let x : Config = config_before past (Then own_call rest) params around st in
       let begins : Config = entered setting x own_call rest direction own_method st.self []
       (cells_named setting st args) in
       let deep : Run Config = fault_if TOO_DEEP (is_too_deep setting st) >>=
@@ -184,10 +184,10 @@ module _ (setting : Setting) (G : Ground setting) (C : G.Context) (at : ℕ) (di
 
     opened : (past rest : Statements) (params : ℕ) (around : List Open) (y : Config) (c : ℕ)
         → G.Typed C (Then call End)
-        → next setting (before past (Then call rest) params around st) ≡ Done y c
+        → next setting (config_before past (Then call rest) params around st) ≡ Done y c
         → CallOpened setting G past rest params around st call y
     opened past rest params around y c typed e =
-        let x : Config = before past (Then call rest) params around st in
+        let x : Config = config_before past (Then call rest) params around st in
         let begins : ℕ → Config = λ n. entered setting x call rest direction
         (method_named setting.program (class_of setting st n) method.text) n (cell ∷ [])
         (cells_named setting st args)
@@ -223,7 +223,7 @@ module _ (setting : Setting) (G : Ground setting) where
       (args : List Ident)
       (past rest : Statements) (params : ℕ) (around : List Open) (st : State) (y : Config) (c : ℕ)
       → G.Typed C (Then (Call at direction None method args) End) → G.Good C st
-      → next setting (before past (Then (Call at direction None method args) rest) params around st)
+      → next setting (config_before past (Then (Call at direction None method args) rest) params around st)
       ≡ Done y c
       → CallOpened setting G past rest params around st (Call at direction None method args) y
   own_call_back C at direction method args past rest params around st y c typed good e =
@@ -233,7 +233,7 @@ module _ (setting : Setting) (G : Ground setting) where
       (args : List Ident)
       (past rest : Statements) (params : ℕ) (around : List Open) (st : State) (y : Config) (c : ℕ)
       → G.Typed C (Then (Call at direction (Some (Whole name)) method args) End) → G.Good C st
-      → next setting (before past (Then (Call at direction (Some (Whole name)) method args) rest)
+      → next setting (config_before past (Then (Call at direction (Some (Whole name)) method args) rest)
       params around st)
       ≡ Done y c
       → CallOpened setting G past rest params around st

@@ -13,7 +13,7 @@ use Rattle.meaning_machine.specs.roopl_semantics.Value.{Slot, read, value as val
 use Rattle.meaning_machine.specs.roopl_semantics.Execution.{Setting, statement, exec, opened, closed, with_local}
 use Rattle.meaning_machine.specs.roopl_semantics.Execution.{constructed, element_call, element_name, DELOCAL}
 use Rattle.meaning_machine.specs.Machine.{Config, Open, Holding, inside, held_local, left, begun}
-use Rattle.meaning_machine.specs.MachineLaws.{gone, before}
+use Rattle.meaning_machine.specs.MachineLaws.{gone_past, config_before}
 use Rattle.meaning_machine.specs.Turned.{each_undone, turn, unwound}
 use Rattle.meaning_inverse.proofs.Runs.{Runs, Does, done_then, done_given, given_done, passes}
 use Rattle.meaning_inverse.proofs.Later.{IsSound, Ends, ends_on, ends_done, exec_later, frame_names}
@@ -50,10 +50,10 @@ module _ (setting : Setting) (s : Statement) (name : List ℕ) (value : Expressi
 
     -- its variable appears
     scope_entered : (st : State) (v : Value) → value_in setting.program st value ≡ Ok v
-        → let x = before past (Then s rest) params around st in
+        → let x = config_before past (Then s rest) params around st in
         LeadsTo setting x (inside x s rest (Holding name value end_value) body (opened name v st))
     scope_entered st v is =
-        let x = before past (Then s rest) params around st in
+        let x = config_before past (Then s rest) params around st in
         record {
           cost = nodes value + (0 + 0);
           steps =
@@ -67,7 +67,7 @@ module _ (setting : Setting) (s : Statement) (name : List ℕ) (value : Expressi
     -- its variable goes
     scope_left : (p : Statements) (end : State) (w : Value) → unwound p End ≡ body
         → value_in setting.program (closed end) end_value ≡ Ok w → opened name w (closed end) ≡ end
-        → LeadsTo setting (before p End params (held ∷ around) end) (left held around params (closed end))
+        → LeadsTo setting (config_before p End params (held ∷ around) end) (left held around params (closed end))
     scope_left p end w placed is same =
         let y = left held around params (closed end) in
         let into : Statements → State → Config = λ b st. inside (turn y) (inverse_statement s) (each_undone past)
@@ -115,11 +115,11 @@ module _ (setting : Setting) (s : Statement) (name : List ℕ) (value : Expressi
       pub scope_back : (k : ℕ) → k ≤ n → (st : State) → IsSound st
           → ((v : Value) → value_in setting.program st value ≡ Ok v
           → (inner : G.Context) × G.Good inner (opened name v st) × G.Typed inner body)
-          → OnPast setting k s st (before (Then s past) rest params around)
-          → let x = before past (Then s rest) params around st in
+          → OnPast setting k s st (config_before (Then s past) rest params around)
+          → let x = config_before past (Then s rest) params around st in
           Ends (begun setting x s rest) (Leads setting k x)
       scope_back k le st sound enter on =
-          let x = before past (Then s rest) params around st in
+          let x = config_before past (Then s rest) params around st in
           let y : Value → Config = λ v. inside x s rest (Holding name value end_value) body (opened name v st) in
           subst (λ r. Ends r (Leads setting k x)) (sym (scope.begins x rest))
           (ends_on (evaluated setting.program value st) (λ v. give (y v)) _ (Leads setting k x)
@@ -130,7 +130,7 @@ module _ (setting : Setting) (s : Statement) (name : List ℕ) (value : Expressi
             scope_entered st v is,
             ih k le within.0 End body params (held ∷ around) (opened name v st) within.2 within.1
                 (λ j lj end cost runs.
-                let z = before (gone body End) End params (held ∷ around) end in
+                let z = config_before (gone_past body End) End params (held ∷ around) end in
                 let q = left held around params (closed end) in
                 step_by_step setting j z (λ i li.
                 ends_on (evaluated setting.program end_value end) (λ w. fault_if DELOCAL
@@ -143,7 +143,7 @@ module _ (setting : Setting) (s : Statement) (name : List ℕ) (value : Expressi
                 let is_w = (given_done (nodes end_value) (value_in setting.program end end_value) w (nodes end_value)
                 f).0 in
                 ends_done q 0 (Leads setting i z) (
-                  scope_left (gone body End) end w (unwound_gone body End)
+                  scope_left (gone_past body End) end w (unwound_gone body End)
                       (sym (value_under setting.program name w (closed end) end_value scope.none_end)
                       ∙ ap (λ t. value_in setting.program t end_value) (sym formed) ∙ is_w) (sym formed),
                   on i (omega arith) (closed end) (nodes value + (cost + nodes end_value))
@@ -155,8 +155,8 @@ module _ (setting : Setting) (G : Ground setting) (n : ℕ) (ih : BlocksBack set
     (past rest : Statements) (params : ℕ) (around : List Open) (k : ℕ) (le : k ≤ n) (st : State)
     (good : G.Good C st) where
   abbrev Back : Statement → Type 0
-  Back s = let x = before past (Then s rest) params around st in
-      G.Typed C (Then s End) → OnPast setting k s st (before (Then s past) rest params around)
+  Back s = let x = config_before past (Then s rest) params around st in
+      G.Typed C (Then s End) → OnPast setting k s st (config_before (Then s past) rest params around)
       → Ends (begun setting x s rest) (Leads setting k x)
 
   pub local_back : (at : ℕ) (var : Var) (value : Expression) (body : Statements) (end_var : Var)

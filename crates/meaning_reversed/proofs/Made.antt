@@ -9,7 +9,7 @@ use Rattle.meaning_machine.specs.roopl_semantics.Store.{State}
 use Rattle.meaning_machine.specs.roopl_semantics.Execution.{Setting, Runner, statement, exec}
 use Rattle.meaning_inverse.specs.meaning_sound.Sound.{Descending}
 use Rattle.meaning_machine.specs.Machine.{Config, Open, past_it, begun}
-use Rattle.meaning_machine.specs.MachineLaws.{before}
+use Rattle.meaning_machine.specs.MachineLaws.{config_before}
 use Rattle.meaning_machine.specs.Turned.{each_undone, turn}
 use Rattle.meaning_inverse.proofs.Runs.{does_of}
 use Rattle.meaning_inverse.proofs.Later.{Ends, ends_on, ends_done}
@@ -40,10 +40,10 @@ module _ (setting : Setting) where
       (k : ℕ) (C : G.Context) (past rest : Statements) (params : ℕ) (around : List Open) (st : State)
       (good : G.Good C st) (at : ℕ) (made : Creation) (target : Lvalue) where
     abbrev going : Statement → State → Config
-    going s st = before past (Then s rest) params around st
+    going s st = config_before past (Then s rest) params around st
 
     abbrev gone_on : Statement → State → Config
-    gone_on s st = before (Then s past) rest params around st
+    gone_on s st = config_before (Then s past) rest params around st
 
     -- `new`, and all that comes after it
     pub new_back : let s = New at made target in

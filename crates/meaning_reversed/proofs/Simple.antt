@@ -6,7 +6,7 @@ use Rattle.meaning_machine.specs.roopl_semantics.Run.{Run, Done, More, after_cos
 use Rattle.meaning_machine.specs.roopl_semantics.Store.{State}
 use Rattle.meaning_machine.specs.roopl_semantics.Execution.{Setting, statement, exec}
 use Rattle.meaning_machine.specs.Machine.{Config, Open, past_it, simply, begun}
-use Rattle.meaning_machine.specs.MachineLaws.{before}
+use Rattle.meaning_machine.specs.MachineLaws.{config_before}
 use Rattle.meaning_machine.specs.Turned.{each_undone, turn}
 use Rattle.meaning_machine.proofs.Back.{simple_done}
 use Rattle.meaning_inverse.proofs.Runs.{Does, does_of, done_result}
@@ -101,15 +101,15 @@ module _ (setting : Setting) where
     -- a simple statement, and all that comes after it
     pub simple_back : (k : ℕ) (C : G.Context) (past rest : Statements) (params : ℕ) (around : List Open) (st : State)
         (s : Statement) → IsPlainSimple s → G.Typed C (Then s End) → G.Good C st
-        → OnPast setting k s st (before (Then s past) rest params around)
-        → Ends (begun setting (before past (Then s rest) params around st) s rest)
-        (Leads setting k (before past (Then s rest) params around st))
+        → OnPast setting k s st (config_before (Then s past) rest params around)
+        → Ends (begun setting (config_before past (Then s rest) params around st) s rest)
+        (Leads setting k (config_before past (Then s rest) params around st))
     simple_back k C past rest params around st s simple typed good on =
-        let x = before past (Then s rest) params around st in
+        let x = config_before past (Then s rest) params around st in
         subst (λ (r : Run Config). Ends r (Leads setting k x)) (sym (begun_simply s simple x rest))
         (ends_on (at_once setting s st) (λ end. give (past_it x s rest end)) _ (Leads setting k x)
         (ends_so (at_once setting s st)) (λ end e.
-        let y = before (Then s past) rest params around end in
+        let y = config_before (Then s past) rest params around end in
         let runs : statement setting 0 (exec setting 0) s st ≡ Done end e.0 = any_fuel s simple 0 st ∙ e.1 in
         let does = does_of setting 0 s st end e.0 runs in
         let undo = inverse_does s simple C st end e.0 typed good

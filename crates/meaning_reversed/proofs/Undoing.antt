@@ -6,7 +6,7 @@ use Rattle.meaning_machine.specs.roopl_semantics.Store.{State}
 use Rattle.meaning_machine.specs.roopl_semantics.Value.{value as value_in, evaluated}
 use Rattle.meaning_machine.specs.roopl_semantics.Execution.{Setting}
 use Rattle.meaning_machine.specs.Machine.{Config, Open, begun, next}
-use Rattle.meaning_machine.specs.MachineLaws.{gone, before}
+use Rattle.meaning_machine.specs.MachineLaws.{gone_past, config_before}
 use Rattle.meaning_machine.specs.Turned.{turn, unwound, StepsBack}
 use Rattle.meaning_inverse.proofs.Runs.{Runs, Does, given_done, runs_end, runs_then}
 use Rattle.meaning_inverse.proofs.Later.{Ends, ends_then}
@@ -33,7 +33,7 @@ ends_valued setting e st = record {
 -- ---- blocks after their ends
 
 -- the statements past at the end of a block are the block
-pub unwound_gone : (b past : Statements) → unwound (gone b past) End ≡ unwound past b
+pub unwound_gone : (b past : Statements) → unwound (gone_past b past) End ≡ unwound past b
 unwound_gone End past = refl
 unwound_gone (Then s b) past = unwound_gone b (Then s past)
 
@@ -60,10 +60,10 @@ module _ (setting : Setting) where
 
   -- a statement begins
   pub begins : (n : ℕ) (past rest : Statements) (params : ℕ) (around : List Open) (st : State) (s : Statement)
-      → let x = before past (Then s rest) params around st in
+      → let x = config_before past (Then s rest) params around st in
       ((i : ℕ) → suc i ≤ n → Ends (begun setting x s rest) (Leads i x)) → AllBack n x
   begins n past rest params around st s h =
-      let x = before past (Then s rest) params around st in
+      let x = config_before past (Then s rest) params around st in
       step_by_step n x (λ i le. ends_spent 1 (begun setting x s rest) (Leads i x) (h i le))
 
   -- ---- what is to be shown of statements and blocks
@@ -81,8 +81,8 @@ module _ (setting : Setting) where
     BlocksBack n =
         (k : ℕ) → k ≤ n → (C : G.Context) (past b : Statements) (params : ℕ) (around : List Open) (st : State)
         → G.Typed C b → G.Good C st
-        → OnBehind k b st (λ end. before (gone b past) End params around end)
-        → AllBack k (before past b params around st)
+        → OnBehind k b st (λ end. config_before (gone_past b past) End params around end)
+        → AllBack k (config_before past b params around st)
 
     -- what a block leads to is good, and so is what a statement leads to
     pub good_behind : (C : G.Context) (b : Statements) (st end : State) (cost : ℕ) → G.Typed C b → G.Good C st

@@ -11,8 +11,8 @@ use Rattle.meaning_machine.specs.roopl_semantics.Store.{State}
 use Rattle.meaning_machine.specs.roopl_semantics.Execution.{Setting}
 use Rattle.meaning_machine.specs.roopl_semantics.Source.{IsValid, main_body, starting}
 use Rattle.meaning_machine.specs.Machine.{Config, Open, next, walk}
-use Rattle.meaning_machine.specs.MachineLaws.{gone, before}
-use Rattle.meaning_machine.specs.SourceLaws.{set_for, start_of}
+use Rattle.meaning_machine.specs.MachineLaws.{gone_past, config_before}
+use Rattle.meaning_machine.specs.SourceLaws.{set_for, start_config}
 use Rattle.meaning_inverse.proofs.meaning_sound_laws.Accepted.{knows_classes}
 use Rattle.meaning_inverse.proofs.meaning_sound_laws.Plainness.{program_plain}
 use Rattle.meaning_inverse.proofs.Runs.{in_parts, done_result}
@@ -26,7 +26,7 @@ use Rattle.meaning_reversed.proofs.AllSteps.{all_back}
 module _ (setting : Setting) where
   -- a run that is over stays where it is
   over_stays : (past rest : Statements) (params : ℕ) (around : List Open) (st : State) → is_over rest around ≡ true
-      → let x = before past rest params around st in next setting x ≡ Done x 0
+      → let x = config_before past rest params around st in next setting x ≡ Done x 0
   over_stays past End params [] st e = refl
   over_stays past End params (o ∷ around) st e = cc
   over_stays past (Then s rest) params around st e = cc
@@ -58,14 +58,14 @@ module _ (setting : Setting) where
           more parts.middle parts.after ((all g).by parts.middle parts.before parts.first).1 parts.second going
 
   -- nothing has to be shown after the end
-  at_the_end : (n : ℕ) (past : Statements) (params : ℕ) (st : State) → AllBack setting n (before past End params [] st)
+  at_the_end : (n : ℕ) (past : Statements) (params : ℕ) (st : State) → AllBack setting n (config_before past End params [] st)
   at_the_end zero past params st = tt
   at_the_end (suc n) past params st = λ going. cc
 
 module _ (program : Source) (limits : Limits) (input : List FieldWord) (accepted : IsAccepted program)
     (inside : IsLimits limits) (valid : IsValid program input) where
   -- so many steps from the start of an accepted program
-  all_from_start : (n : ℕ) → AllBack (set_for program limits) n (start_of program input)
+  all_from_start : (n : ℕ) → AllBack (set_for program limits) n (start_config program input)
   all_from_start n =
       let setting : Setting = set_for program limits in
       let classes = knows_classes program accepted (program_plain program accepted) in
@@ -76,10 +76,10 @@ module _ (program : Source) (limits : Limits) (input : List FieldWord) (accepted
       (main_body program) 0 [] start
       (on.typed main (main_body program) (main_checked program limits input accepted inside valid))
       (on.good main start (starting_good program limits input accepted inside valid))
-      (λ i li end cost runs. at_the_end setting i (gone (main_body program) End) 0 end)
+      (λ i li end cost runs. at_the_end setting i (gone_past (main_body program) End) 0 end)
 
 -- each step of a run of an accepted program is undone
 pub steps_undone : StepsAreUndone
 steps_undone program limits input accepted inside valid steps x y cost step_cost came going e =
-    (along (set_for program limits) steps (start_of program input) x cost
+    (along (set_for program limits) steps (start_config program input) x cost
     (all_from_start program limits input accepted inside valid (suc steps)) came going).by y step_cost e

@@ -9,7 +9,7 @@ use Rattle.meaning_machine.specs.roopl_semantics.Run.{Done}
 use Rattle.meaning_machine.specs.roopl_semantics.Execution.{Setting}
 use Rattle.meaning_machine.specs.roopl_semantics.Source.{IsValid}
 use Rattle.meaning_machine.specs.Machine.{Config, Open, next, walk}
-use Rattle.meaning_machine.specs.SourceLaws.{set_for, start_of}
+use Rattle.meaning_machine.specs.SourceLaws.{set_for, start_config}
 use Rattle.meaning_machine.specs.Turned.{turn}
 use Rattle.meaning_machine.specs.Reversed.{back}
 
@@ -30,7 +30,7 @@ StepsAreUndone =
     (program : Source) (limits : Limits) (input : List FieldWord)
     → IsAccepted program → IsLimits limits → IsValid program input
     → (steps : ℕ) (x y : Config) (cost step_cost : ℕ)
-    → walk (set_for program limits) steps (start_of program input) ≡ Done x cost
+    → walk (set_for program limits) steps (start_config program input) ≡ Done x cost
     → is_over x.rest x.around ≡ false
     → next (set_for program limits) x ≡ Done y step_cost
     → LeadsTo (set_for program limits) x y

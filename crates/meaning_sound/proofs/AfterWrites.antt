@@ -9,7 +9,7 @@ use Rattle.roopl_semantics.specs.class_rules.Scope.{Locals}
 use Rattle.roopl_semantics.specs.Store.{Value, Nil, Object, State, object_named, object_at, no_object, changed_at}
 use Rattle.roopl_semantics.specs.Value.{Cell, Slot, Part, with_value, read, written}
 use Rattle.roopl_semantics.specs.Execution.{Setting, same_cell}
-use Rattle.meaning_sound.specs.Sound.{cell_kinds, local_type, value_of, cell_kind, Typed}
+use Rattle.meaning_sound.specs.Sound.{cell_kinds, local_type, bound_value, cell_kind, Typed}
 use Rattle.meaning_sound.proofs.Lists.{all_inside}
 use Rattle.meaning_sound.proofs.Stores.{changed_here, changed_other, differs}
 use Rattle.meaning_sound.proofs.Cells.{part_of, value_at_is, with_value_values}
@@ -41,7 +41,7 @@ pub read_other : (st : State) (a b : Cell) (v : Value) → same_cell a b ≡ fal
 read_other st (Slot i) (Slot j) v h =
     value_at_is (with_value st.frame i v) j
     ∙ ap (λ vs. unwrap_or (slice_get vs j) Nil) (with_value_values st.frame i v)
-    ∙ ap (λ r. unwrap_or r Nil) (set_get_other (map value_of st.frame) i j v (differs i j h))
+    ∙ ap (λ r. unwrap_or r Nil) (set_get_other (map bound_value st.frame) i j v (differs i j h))
     ∙ sym (value_at_is st.frame j)
 read_other st (Slot i) (Part m j) v h = refl
 read_other st (Part n i) (Slot j) v h = refl
@@ -76,8 +76,8 @@ pub read_same : (setting : Setting) (extra : ℕ → ℕ) (shape : Locals) (clas
 read_same setting extra shape class st (Slot i) k v t h =
     value_at_is (with_value st.frame i v) i
     ∙ ap (λ vs. unwrap_or (slice_get vs i) Nil) (with_value_values st.frame i v)
-    ∙ set_get_same (map value_of st.frame) i v (all_inside setting.program st.store (map local_type shape)
-    (map value_of st.frame) i k t.variables h)
+    ∙ set_get_same (map bound_value st.frame) i v (all_inside setting.program st.store (map local_type shape)
+    (map bound_value st.frame) i k t.variables h)
 read_same setting extra shape class st (Part n i) k v t h =
     let p = part_of setting.program st.store n i k h in
     let inside = all_inside setting.program st.store (cell_kinds setting.program p.object.head) p.object.cells i k

@@ -8,7 +8,7 @@ use Rattle.roopl_semantics.specs.class_rules.Table.{table_of}
 use Rattle.roopl_semantics.specs.class_rules.Refusal.{type_differs}
 use Rattle.roopl_semantics.specs.class_rules.Scope.{Typing, Locals}
 use Rattle.roopl_semantics.specs.class_rules.Expressions.{is_int, type_of, place_type}
-use Rattle.roopl_semantics.specs.class_rules.Statements.{passed, required, same_kind, update_rules, swap_rules, check_statements}
+use Rattle.roopl_semantics.specs.class_rules.Statements.{verdict_passed, required, same_kind, update_rules, swap_rules, check_statements}
 use Rattle.roopl_semantics.specs.class_rules.Program.{setting_in}
 use Rattle.roopl_semantics.specs.Operators.{updated}
 use Rattle.roopl_semantics.specs.Run.{Run, give}
@@ -18,7 +18,7 @@ use Rattle.roopl_semantics.specs.Elements.{SHARED_ARRAY, elements, index_element
 use Rattle.roopl_semantics.specs.Elements.{read_cost}
 use Rattle.roopl_semantics.specs.Execution.{Setting, Runner, holds, LOOP, FI, turn_end, turns, statement}
 use Rattle.roopl_semantics.specs.Laws.{one_if_name}
-use Rattle.meaning_sound.specs.Sound.{fits, cell_kind, Sound, Keeps}
+use Rattle.meaning_sound.specs.Sound.{is_of_kind, cell_kind, Sound, Keeps}
 use Rattle.meaning_sound.specs.Plain.{HasWords, IsPlain}
 use Rattle.meaning_sound.proofs.Cells.{typed_of, read_fits}
 use Rattle.meaning_sound.proofs.Classes.{KnowsClasses}
@@ -33,7 +33,7 @@ use Rattle.meaning_sound.proofs.Writes.{stays_itself, stays_through, write_keeps
 pub record KeepsAll (setting : Setting) (run : Runner) : Type 0 where
   pub by : (extra : ℕ → ℕ) (locals shape : Locals) (class : ℕ) (body : Statements) (st : State)
       → class < length setting.program.classes → MeansSame locals shape
-      → check_statements (setting_in setting.program (table_of setting.program) class) locals body ≡ passed
+      → check_statements (setting_in setting.program (table_of setting.program) class) locals body ≡ verdict_passed
       → IsPlain body
       → Sound setting extra shape class st → Ends (Keeps setting extra shape class st) (run body st)
 
@@ -59,7 +59,7 @@ module _ (setting : Setting) (classes : KnowsClasses setting.program) (run : Run
   Kept st end = Keeps setting extra shape class st end
 
   pub update_keeps : (n at : ℕ) (op : UpdateOp) (target : Lvalue) (value : Expression) (st : State)
-      → update_rules typing locals at target value ≡ passed → HasWords value → Sound setting extra shape class st
+      → update_rules typing locals at target value ≡ verdict_passed → HasWords value → Sound setting extra shape class st
       → Ends (Kept st) (statement setting n run (Update at op target value) st)
   update_keeps n at op target value st h words s =
       let t = typed_of setting extra shape class st s in
@@ -73,7 +73,7 @@ module _ (setting : Setting) (classes : KnowsClasses setting.program) (run : Run
       cell_found program shape st.store p.value (cell_of program st target) cell
       (place_fits setting classes extra locals shape class inside means st target p.value t p.is) e
       ∙ ap (λ z. Some z) (int_kind p.value ints.0) in
-      let fit : fits program st.store x kind.Int ≡ true = subst (λ z. fits program st.store x z ≡ true)
+      let fit : is_of_kind program st.store x kind.Int ≡ true = subst (λ z. is_of_kind program st.store x z ≡ true)
       (int_kind v.value ints.1) (value_found program st.store v.value (value_in program st value) x
       (value_fits setting classes extra locals shape class inside means st value v.value t words v.is) f) in
       let old = read_fits setting extra shape class st cell kind.Int t place in
@@ -88,7 +88,7 @@ module _ (setting : Setting) (classes : KnowsClasses setting.program) (run : Run
       (int_number program st.store (read st cell) old) (int_number program st.store x fit)))
       (λ m. sym (ap (one_if_name m) was.is)))))
 
-  pub swap_keeps_all : (n at : ℕ) (left right : Lvalue) (st : State) → swap_rules typing locals at left right ≡ passed
+  pub swap_keeps_all : (n at : ℕ) (left right : Lvalue) (st : State) → swap_rules typing locals at left right ≡ verdict_passed
       → Sound setting extra shape class st → Ends (Kept st) (statement setting n run (Swap at left right) st)
   swap_keeps_all n at left right st h s =
       let t = typed_of setting extra shape class st s in
@@ -111,9 +111,9 @@ module _ (setting : Setting) (classes : KnowsClasses setting.program) (run : Run
       (place_fits setting classes extra locals shape class inside means st right r.value t r.is) f
       ∙ ap (λ z. Some z) (sym same)))))
 
-  chosen_checks : (b : Bool) (taken other : Statements) → check_statements typing locals taken ≡ passed
-      → check_statements typing locals other ≡ passed → check_statements typing locals (if b then taken else other)
-      ≡ passed
+  chosen_checks : (b : Bool) (taken other : Statements) → check_statements typing locals taken ≡ verdict_passed
+      → check_statements typing locals other ≡ verdict_passed → check_statements typing locals (if b then taken else other)
+      ≡ verdict_passed
   chosen_checks true taken other h k = h
   chosen_checks false taken other h k = k
 
@@ -123,7 +123,7 @@ module _ (setting : Setting) (classes : KnowsClasses setting.program) (run : Run
   chosen_plain false taken other h k = k
 
   pub if_keeps : (n at : ℕ) (test : Expression) (taken other : Statements) (after : Expression) (st : State)
-      → check_statements typing locals taken ≡ passed → check_statements typing locals other ≡ passed → IsPlain taken
+      → check_statements typing locals taken ≡ verdict_passed → check_statements typing locals other ≡ verdict_passed → IsPlain taken
       → IsPlain other
       → Sound setting extra shape class st → Ends (Kept st) (statement setting n run (If at test taken other after) st)
   if_keeps n at test taken other after st ht ho pt po s =
@@ -136,7 +136,7 @@ module _ (setting : Setting) (classes : KnowsClasses setting.program) (run : Run
       (λ q. k))))
 
   turn_end_keeps : (entry : Expression) (again : Statements) (next : State → Run State) (start : State)
-      → check_statements typing locals again ≡ passed → IsPlain again
+      → check_statements typing locals again ≡ verdict_passed → IsPlain again
       → ((st : State) → Kept start st → Ends (Kept start) (next st)) → (exits : Bool) (st : State) → Kept start st
       → Ends (Kept start) (turn_end setting run entry again next exits st)
   turn_end_keeps entry again next start h p rest true st k = k
@@ -148,7 +148,7 @@ module _ (setting : Setting) (classes : KnowsClasses setting.program) (run : Run
       (λ q. rest end (keeps_through setting extra shape class start st end k e))))
 
   turns_keep : (n : ℕ) (entry : Expression) (first again : Statements) (exit : Expression) (start : State)
-      → check_statements typing locals first ≡ passed → check_statements typing locals again ≡ passed → IsPlain first
+      → check_statements typing locals first ≡ verdict_passed → check_statements typing locals again ≡ verdict_passed → IsPlain first
       → IsPlain again → (st : State) → Kept start st → Ends (Kept start) (turns setting n run entry first again exit st)
   turns_keep zero entry first again exit start hf ha pf pa st k = tt
   turns_keep (suc n) entry first again exit start hf ha pf pa st k =
@@ -160,7 +160,7 @@ module _ (setting : Setting) (classes : KnowsClasses setting.program) (run : Run
       (keeps_through setting extra shape class start st end k e)))
 
   pub from_keeps : (n at : ℕ) (entry : Expression) (first again : Statements) (exit : Expression) (st : State)
-      → check_statements typing locals first ≡ passed → check_statements typing locals again ≡ passed → IsPlain first
+      → check_statements typing locals first ≡ verdict_passed → check_statements typing locals again ≡ verdict_passed → IsPlain first
       → IsPlain again
       → Sound setting extra shape class st → Ends (Kept st)
       (statement setting n run (From at entry first again exit) st)

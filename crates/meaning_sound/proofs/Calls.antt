@@ -21,7 +21,7 @@ use Rattle.roopl_semantics.specs.class_rules.Table.{table_of, slot_in, dispatch_
 use Rattle.roopl_semantics.specs.class_rules.Refusal.{unknown_name, type_differs, same_argument, wrong_arity, self_update}
 use Rattle.roopl_semantics.specs.class_rules.Scope.{Typing, Locals, kind_of, kind_in}
 use Rattle.roopl_semantics.specs.class_rules.Expressions.{place_type}
-use Rattle.roopl_semantics.specs.class_rules.Statements.{passed, required, each_passes, each_passes_after, occurs_in_own_index}
+use Rattle.roopl_semantics.specs.class_rules.Statements.{verdict_passed, required, each_passes, each_passes_after, occurs_in_own_index}
 use Rattle.roopl_semantics.specs.class_rules.Statements.{argument_known, argument_new, argument_fits, arguments_fit, receiver_kind}
 use Rattle.roopl_semantics.specs.class_rules.Statements.{place_class, receiver_class, plain_receiver, slot_rules, call_rules}
 use Rattle.roopl_semantics.specs.rpp_tree.Places.{place_name}
@@ -33,7 +33,7 @@ use Rattle.roopl_semantics.specs.Execution.{Setting, Runner, same_cell, cells_na
 use Rattle.roopl_semantics.specs.Execution.{TOO_DEEP, invoked, statement}
 use Rattle.roopl_semantics.specs.Laws.{one_if_name}
 use Rattle.roopl_semantics.specs.class_rules.Inheritance.{kind_of_var}
-use Rattle.meaning_sound.specs.Sound.{fits, name_of, Sound, Keeps, Typed}
+use Rattle.meaning_sound.specs.Sound.{is_of_kind, binding_name, Sound, Keeps, Typed}
 use Rattle.meaning_sound.proofs.Stores.{other_number}
 use Rattle.meaning_sound.proofs.Cells.{typed_of, read_fits}
 use Rattle.meaning_sound.proofs.Classes.{KnowsClasses}
@@ -75,7 +75,7 @@ now_in : (before : List Ident) (a : Ident) → name_in (before ++ a ∷ []) a.te
 now_in before a = list_any-append (λ (other : Ident). bytes_eq other.text a.text) before (a ∷ [])
     ∙ or_right (name_in before a.text) _ (or_left (bytes_eq a.text a.text) false (equal_name a.text a.text refl))
 
-pub apart_after : (before args : List Ident) (x : Ident) → each_passes_after argument_new before args ≡ passed
+pub apart_after : (before args : List Ident) (x : Ident) → each_passes_after argument_new before args ≡ verdict_passed
     → name_in before x.text ≡ true → NamesApart x args
 apart_after before [] x h k = tt
 apart_after before (a ∷ args) x h k =
@@ -88,7 +88,7 @@ apart_after before (a ∷ args) x h k =
     by false e none = e
     by true e none = absurd (clash (name_in before x.text) k (ap (name_in before) (same_name x.text a.text e) ∙ none))
 
-pub all_apart_after : (before args : List Ident) → each_passes_after argument_new before args ≡ passed
+pub all_apart_after : (before args : List Ident) → each_passes_after argument_new before args ≡ verdict_passed
     → AllNamesApart args
 all_apart_after before [] h = tt
 all_apart_after before (a ∷ args) h =
@@ -121,7 +121,7 @@ module _ (setting : Setting) (classes : KnowsClasses setting.program) (run : Run
   pub meant_apart : (st : State) (a b : List ℕ) (c d : Cell) → Meant st a c → Meant st b d → bytes_eq a b ≡ false
       → same_cell c d ≡ false
   meant_apart st a b c d (variable i h) (variable j k) apart =
-      other_number i j (λ e. clash (bytes_eq a b) (equal_name a b (one_place (map name_of st.frame) a b i j h k e))
+      other_number i j (λ e. clash (bytes_eq a b) (equal_name a b (one_place (map binding_name st.frame) a b i j h k e))
       apart)
   meant_apart st a b c d (variable i h) (field j k) apart = refl
   meant_apart st a b c d (field i h) (variable j k) apart = refl
@@ -150,7 +150,7 @@ module _ (setting : Setting) (classes : KnowsClasses setting.program) (run : Run
   known_of (Some k) h = refl
 
   pub all_mean : (own : Bool) (at : ℕ) (args : List Ident) (st : State) → Typed setting extra shape class st
-      → each_passes (argument_known typing locals own at) args ≡ passed → AllMean st args
+      → each_passes (argument_known typing locals own at) args ≡ verdict_passed → AllMean st args
   all_mean own at [] st t h = tt
   all_mean own at (a ∷ args) st t h =
       let both = both_passed (argument_known typing locals own at a)
@@ -163,8 +163,8 @@ module _ (setting : Setting) (classes : KnowsClasses setting.program) (run : Run
       )
 
   pub args_have : (own : Bool) (at : ℕ) (params : List Var) (args : List Ident) (st : State)
-      → Typed setting extra shape class st → each_passes (argument_known typing locals own at) args ≡ passed
-      → arguments_fit typing locals params args ≡ passed → length args ≡ length params
+      → Typed setting extra shape class st → each_passes (argument_known typing locals own at) args ≡ verdict_passed
+      → arguments_fit typing locals params args ≡ verdict_passed → length args ≡ length params
       → CellsHave program shape st.store (map (kind_of_var program) params) (cells_named setting st args)
   args_have own at [] [] st t h f l = tt
   args_have own at [] (a ∷ args) st t h f l = absurd (omega arith)
@@ -208,18 +208,18 @@ module _ (setting : Setting) (classes : KnowsClasses setting.program) (run : Run
       Type 0 where
     pub slot : ℕ
     pub slot_is : slot_in typing.table static method.text ≡ Some slot
-    pub known : each_passes (argument_known typing locals own at) args ≡ passed
-    pub new : each_passes_after argument_new before args ≡ passed
+    pub known : each_passes (argument_known typing locals own at) args ≡ verdict_passed
+    pub new : each_passes_after argument_new before args ≡ verdict_passed
     pub as_many : length args ≡ length (parameters_of program (dispatch_in typing.table static slot))
-    pub fit : arguments_fit typing locals (parameters_of program (dispatch_in typing.table static slot)) args ≡ passed
+    pub fit : arguments_fit typing locals (parameters_of program (dispatch_in typing.table static slot)) args ≡ verdict_passed
 
   pub call_parts : (at : ℕ) (receiver : Option Lvalue) (method : Ident) (args : List Ident) (static : ℕ)
-      → slot_rules typing locals at receiver method args static (slot_in typing.table static method.text) ≡ passed
+      → slot_rules typing locals at receiver method args static (slot_in typing.table static method.text) ≡ verdict_passed
       → CallParts (is_none receiver) at (plain_receiver receiver) method args static
   call_parts at receiver method args static h = by (slot_in typing.table static method.text) refl h
     where
       by : (o : Option ℕ) → slot_in typing.table static method.text ≡ o
-          → slot_rules typing locals at receiver method args static o ≡ passed
+          → slot_rules typing locals at receiver method args static o ≡ verdict_passed
           → CallParts (is_none receiver) at (plain_receiver receiver) method args static
       by None e q = absurd (cc)
       by (Some slot) e q =
@@ -238,7 +238,7 @@ module _ (setting : Setting) (classes : KnowsClasses setting.program) (run : Run
           }
 
   pub call_self_keeps : (n at : ℕ) (back : Bool) (method : Ident) (args : List Ident) (st : State)
-      → call_rules typing locals at None method args ≡ passed → Sound setting extra shape class st
+      → call_rules typing locals at None method args ≡ verdict_passed → Sound setting extra shape class st
       → Ends (Kept st) (statement setting n run (Call at back None method args) st)
   call_self_keeps n at back method args st h s =
       let t = typed_of setting extra shape class st s in
@@ -277,10 +277,10 @@ module _ (setting : Setting) (classes : KnowsClasses setting.program) (run : Run
     pub is : place_type typing locals place ≡ Ok (kind.Class static)
     pub apart : occurs_in_own_index place ≡ false
     pub rules : slot_rules typing locals at (Some place) method args static (slot_in typing.table static method.text)
-        ≡ passed
+        ≡ verdict_passed
 
   pub receiver_parts : (at : ℕ) (place : Lvalue) (method : Ident) (args : List Ident)
-      → call_rules typing locals at (Some place) method args ≡ passed → ReceiverParts at place method args
+      → call_rules typing locals at (Some place) method args ≡ verdict_passed → ReceiverParts at place method args
   receiver_parts at place method args h =
       let c = handed_on (receiver_class typing locals (Some place)) _ tt h in
       let k = handed_on (place_type typing locals place) _ c.value c.is in
@@ -302,7 +302,7 @@ module _ (setting : Setting) (classes : KnowsClasses setting.program) (run : Run
       by x y false e q = (e, cc)
 
   pub call_object_keeps : (n at : ℕ) (back : Bool) (name method : Ident) (args : List Ident) (st : State)
-      → call_rules typing locals at (Some (Whole name)) method args ≡ passed → Sound setting extra shape class st
+      → call_rules typing locals at (Some (Whole name)) method args ≡ verdict_passed → Sound setting extra shape class st
       → Ends (Kept st) (statement setting n run (Call at back (Some (Whole name)) method args) st)
   call_object_keeps n at back name method args st h s =
       let t = typed_of setting extra shape class st s in
@@ -329,7 +329,7 @@ module _ (setting : Setting) (classes : KnowsClasses setting.program) (run : Run
       let nm = reference program st.store (read st cell) (kind.Class r.static) fit refl u in
       let is_name = name_is (read st cell) nm in
       let object = is_object program r.static st.store self
-      (subst (λ v. fits program st.store v (kind.Class r.static) ≡ true) is_name fit) in
+      (subst (λ v. is_of_kind program st.store v (kind.Class r.static) ≡ true) is_name fit) in
       subst (λ c. Ends (Kept st) (invoked setting run back (method_named program c method.text) self (cell ∷ []) cells
       st)) (sym object.class_is)
       (invoked_keeps setting classes run keeps extra shape class back (method_named program object.own method.text) self

@@ -14,8 +14,8 @@ use Rattle.roopl_semantics.specs.Store.{no_object, changed_at}
 use Rattle.roopl_semantics.specs.Value.{Cell, Slot, Part, value_at, with_value, read, written}
 use Rattle.roopl_semantics.specs.Execution.{Setting}
 use Rattle.roopl_semantics.specs.Laws.{one_if_name, holders_among}
-use Rattle.meaning_sound.specs.Sound.{head_of, head_named, count_of, count_named, named_fits, fits, cell_kinds}
-use Rattle.meaning_sound.specs.Sound.{AllFit, value_of, name_of, local_type, held, entry_name, IsPlaced, Sound}
+use Rattle.meaning_sound.specs.Sound.{head_of, head_named, count_of, count_named, named_fits, is_of_kind, cell_kinds}
+use Rattle.meaning_sound.specs.Sound.{AllFit, bound_value, binding_name, local_type, held, entry_name, IsPlaced, Sound}
 use Rattle.meaning_sound.specs.Sound.{part_kind, cell_kind, Typed}
 use Rattle.meaning_sound.proofs.Lists.{all_inside, all_get, all_set, holders_set, all_kept}
 use Rattle.meaning_sound.proofs.Stores.{same_number, other_number, changed_here, changed_other, holders_changed}
@@ -109,18 +109,18 @@ placed_same setting store other log names heads p = record {
 -- ---- variables
 
 pub with_value_names : (frame : List Binding) (i : ℕ) (v : Value)
-    → map name_of (with_value frame i v) ≡ map name_of frame
+    → map binding_name (with_value frame i v) ≡ map binding_name frame
 with_value_names [] i v = refl
 with_value_names (b ∷ frame) zero v = refl
 with_value_names (b ∷ frame) (suc i) v = ap (λ z. b.name ∷ z) (with_value_names frame i v)
 
 pub with_value_values : (frame : List Binding) (i : ℕ) (v : Value)
-    → map value_of (with_value frame i v) ≡ slice_set (map value_of frame) i v
+    → map bound_value (with_value frame i v) ≡ slice_set (map bound_value frame) i v
 with_value_values [] i v = refl
 with_value_values (b ∷ frame) zero v = refl
 with_value_values (b ∷ frame) (suc i) v = ap (λ z. b.value ∷ z) (with_value_values frame i v)
 
-pub value_at_is : (frame : List Binding) (i : ℕ) → value_at frame i ≡ unwrap_or (slice_get (map value_of frame) i) Nil
+pub value_at_is : (frame : List Binding) (i : ℕ) → value_at frame i ≡ unwrap_or (slice_get (map bound_value frame) i) Nil
 value_at_is [] i = refl
 value_at_is (b ∷ frame) zero = refl
 value_at_is (b ∷ frame) (suc i) = value_at_is frame i
@@ -157,22 +157,22 @@ module _ (setting : Setting) (extra : ℕ → ℕ) (shape : Locals) (class : ℕ
   counts_written st (Part n i) v m = changed_told st.store n (with_cell i v) count_of (λ o. refl) m
 
   pub read_fits : (st : State) (cell : Cell) (k : Kind) → Typed setting extra shape class st
-      → cell_kind setting.program shape st.store cell ≡ Some k → fits setting.program st.store (read st cell) k ≡ true
-  read_fits st (Slot i) k t h = subst (λ v. fits setting.program st.store v k ≡ true) (sym (value_at_is st.frame i))
-      (all_get setting.program st.store (map local_type shape) (map value_of st.frame) i k t.variables h)
+      → cell_kind setting.program shape st.store cell ≡ Some k → is_of_kind setting.program st.store (read st cell) k ≡ true
+  read_fits st (Slot i) k t h = subst (λ v. is_of_kind setting.program st.store v k ≡ true) (sym (value_at_is st.frame i))
+      (all_get setting.program st.store (map local_type shape) (map bound_value st.frame) i k t.variables h)
   read_fits st (Part n i) k t h =
       let p = part_of setting.program st.store n i k h in
-      subst (λ (o : Object). fits setting.program st.store (unwrap_or (slice_get o.cells i) Nil) k ≡ true) (sym p.at)
+      subst (λ (o : Object). is_of_kind setting.program st.store (unwrap_or (slice_get o.cells i) Nil) k ≡ true) (sym p.at)
       (all_get setting.program st.store (cell_kinds setting.program p.object.head) p.object.cells i k
       (t.objects n p.object p.named) p.kind_is)
 
   pub typed_written : (st : State) (cell : Cell) (k : Kind) (v : Value) → Typed setting extra shape class st
-      → cell_kind setting.program shape st.store cell ≡ Some k → fits setting.program st.store v k ≡ true
+      → cell_kind setting.program shape st.store cell ≡ Some k → is_of_kind setting.program st.store v k ≡ true
       → Typed setting extra shape class (written st cell v)
   typed_written st (Slot i) k v t h f = record {
     names = with_value_names st.frame i v ∙ t.names;
     variables = subst (AllFit setting.program st.store (map local_type shape)) (sym (with_value_values st.frame i v))
-        (all_set setting.program st.store (map local_type shape) (map value_of st.frame) i k v t.variables h f);
+        (all_set setting.program st.store (map local_type shape) (map bound_value st.frame) i k v t.variables h f);
     objects = t.objects;
     lives = t.lives;
     self_is = t.self_is;
@@ -191,7 +191,7 @@ module _ (setting : Setting) (extra : ℕ → ℕ) (shape : Locals) (class : ℕ
       let P : Object → Type 0 = λ o. AllFit setting.program store' (cell_kinds setting.program o.head) o.cells in
       record {
         names = t.names;
-        variables = kept (map local_type shape) (map value_of st.frame) t.variables;
+        variables = kept (map local_type shape) (map bound_value st.frame) t.variables;
         objects = changed_objects P st.store n (with_cell i v)
             (λ m o q. kept (cell_kinds setting.program o.head) o.cells (t.objects m o q)) (λ o q.
             let s : p.object ≡ o = let e = sym p.named ∙ q in cc in
@@ -212,9 +212,9 @@ module _ (setting : Setting) (extra : ℕ → ℕ) (shape : Locals) (class : ℕ
       → cell_kind setting.program shape st.store cell ≡ Some k
       → held m (written st cell v) + one_if_name m (read st cell) ≡ held m st + one_if_name m v
   held_written st (Slot i) k v m t h =
-      let inside = all_inside setting.program st.store (map local_type shape) (map value_of st.frame) i k t.variables h
+      let inside = all_inside setting.program st.store (map local_type shape) (map bound_value st.frame) i k t.variables h
       in
-      let a = holders_set m (map value_of st.frame) i v inside in
+      let a = holders_set m (map bound_value st.frame) i v inside in
       let b = ap (holders_among m) (with_value_values st.frame i v) in
       let c = ap (one_if_name m) (value_at_is st.frame i) in
       omega arith

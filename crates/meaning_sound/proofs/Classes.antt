@@ -7,7 +7,7 @@ use Rattle.roopl_semantics.specs.rpp_tree.Limits.{IsSmallMethod}
 use Rattle.roopl_semantics.specs.class_rules.Classes.{class_fields, method_named}
 use Rattle.roopl_semantics.specs.class_rules.Table.{table_of, slot_in, dispatch_in}
 use Rattle.roopl_semantics.specs.class_rules.Overrides.{parameters_of}
-use Rattle.roopl_semantics.specs.class_rules.Statements.{passed}
+use Rattle.roopl_semantics.specs.class_rules.Statements.{verdict_passed}
 use Rattle.roopl_semantics.specs.class_rules.Program.{check_method, setting_in}
 use Rattle.roopl_semantics.specs.class_rules.Inheritance.{is_or_inherits, kind_of_var, HasFront}
 use Rattle.meaning_sound.specs.Plain.{IsPlain}
@@ -18,7 +18,7 @@ pub record IsFound (program : Source) (own : ℕ) (method : Procedure) (params :
   pub class : ℕ
   pub inside : class < length program.classes
   pub above : is_or_inherits program own class ≡ true
-  pub checked : check_method (setting_in program (table_of program) class) method ≡ passed
+  pub checked : check_method (setting_in program (table_of program) class) method ≡ verdict_passed
   pub same_types : map (kind_of_var program) method.params ≡ map (kind_of_var program) params
   pub plain : IsPlain method.body
   pub small : IsSmallMethod method

@@ -15,8 +15,8 @@ use Rattle.roopl_semantics.specs.class_rules.Overrides.{parameters_of}
 use Rattle.roopl_semantics.specs.class_rules.Table.{Table, table_of, class_of, slot_in, dispatch_in, inherits_in}
 use Rattle.roopl_semantics.specs.class_rules.Refusal.{unknown_name, type_differs, self_update, same_argument, wrong_arity}
 use Rattle.roopl_semantics.specs.class_rules.Scope.{Typing, Local, Locals, local_kind, kind_of, field_kind, class_kind}
-use Rattle.roopl_semantics.specs.class_rules.Expressions.{and_then, occurs, type_of, place_type}
-use Rattle.roopl_semantics.specs.class_rules.Statements.{Verdict, receiver_kind, place_class, passed, required, in_turn, each_passes}
+use Rattle.roopl_semantics.specs.class_rules.Expressions.{then_checked, occurs, type_of, place_type}
+use Rattle.roopl_semantics.specs.class_rules.Statements.{Verdict, receiver_kind, place_class, verdict_passed, required, in_turn, each_passes}
 use Rattle.roopl_semantics.specs.class_rules.Statements.{each_passes_after, same_kind, in_either_index, swap_rules, class_known}
 use Rattle.roopl_semantics.specs.class_rules.Statements.{takes_object_of, make_rules, construct_rules, argument_known, argument_new}
 use Rattle.roopl_semantics.specs.class_rules.Statements.{argument_fits, arguments_fit, slot_rules, call_rules, receiver_class}
@@ -53,15 +53,15 @@ takes_itself table None h = absurd (cc)
 takes_itself table (Some c) h = ap (λ b. b || inherits_in table c c) (nat_same c)
 
 pub made_in : (typing : Typing) (locals : Locals) (at : ℕ) (class name : Ident)
-    → class_known typing.table class ≡ passed → make_rules typing (with_object typing locals class name) at
-    (AnObject class) (Whole name) ≡ passed
+    → class_known typing.table class ≡ verdict_passed → make_rules typing (with_object typing locals class name) at
+    (AnObject class) (Whole name) ≡ verdict_passed
 made_in typing locals at class name known =
     let k = class_kind (class_of typing.table class.text) in
     in_turn_passes (class_known typing.table class) _ known
-    (hands_on (place_type typing (with_object typing locals class name) (Whole name)) _ k passed
+    (hands_on (place_type typing (with_object typing locals class name) (Whole name)) _ k verdict_passed
     (innermost typing locals name k)
     (in_turn_passes (required (takes_object_of typing.table (class_of typing.table class.text) k) (type_differs at))
-    passed
+    verdict_passed
     (required_passes _ (type_differs at) (takes_itself typing.table (class_of typing.table class.text)
     (was_held _ (unknown_name class.at) known))) refl))
 
@@ -78,8 +78,8 @@ module _ (setting : Setting) (classes : KnowsClasses setting.program) (run : Run
   Kept st end = Keeps setting extra shape class st end
 
   pub construct_keeps : (n at : ℕ) (of_class name : Ident) (body : Statements) (end : Ident) (st : State)
-      → construct_rules typing locals of_class name end ≡ passed
-      → check_statements typing (with_object typing locals of_class name) body ≡ passed → IsPlain body
+      → construct_rules typing locals of_class name end ≡ verdict_passed
+      → check_statements typing (with_object typing locals of_class name) body ≡ verdict_passed → IsPlain body
       → Sound setting extra shape class st → Ends (Kept st)
       (statement setting n run (Construct at of_class name body end) st)
   construct_keeps n at of_class name body end st h checked plain s =
@@ -95,7 +95,7 @@ module _ (setting : Setting) (classes : KnowsClasses setting.program) (run : Run
       (nil_end at (no_int_class (class_of typing.table of_class.text)))
       (in_turn_passes (check_statement typing inner first) (check_statements typing inner (joined body last)) made
       (check_joined typing inner body last checked (in_turn_passes
-      (check_statement typing inner (Delete at (AnObject of_class) (Whole name))) passed made refl)))
+      (check_statement typing inner (Delete at (AnObject of_class) (Whole name))) verdict_passed made refl)))
       ((tt, tt), plain_joined body last plain ((tt, tt), tt)) s
 
   -- ---- calls on elements
@@ -112,8 +112,8 @@ module _ (setting : Setting) (classes : KnowsClasses setting.program) (run : Run
     l = record { name = []; kind = k }
 
     pub known_under : (args : List Ident) → AreNamed args
-        → each_passes (argument_known typing locals false at) args ≡ passed
-        → each_passes (argument_known typing (l ∷ locals) false at) args ≡ passed
+        → each_passes (argument_known typing locals false at) args ≡ verdict_passed
+        → each_passes (argument_known typing (l ∷ locals) false at) args ≡ verdict_passed
     known_under [] n h = refl
     known_under (a ∷ args) n h =
         let both = both_passed (argument_known typing locals false at a)
@@ -121,11 +121,11 @@ module _ (setting : Setting) (classes : KnowsClasses setting.program) (run : Run
         let same = kind_in_under typing l locals a.text (bytes_turned a.text [] ∙ n.0) in
         in_turn_passes (argument_known typing (l ∷ locals) false at a)
         (each_passes (argument_known typing (l ∷ locals) false at) args)
-        (ap (λ z. in_turn (required (is_some z) (unknown_name a.at)) passed) same ∙ both.0)
+        (ap (λ z. in_turn (required (is_some z) (unknown_name a.at)) verdict_passed) same ∙ both.0)
         (known_under args n.1 both.1)
 
     pub fit_under : (params : List Var) (args : List Ident) → AreNamed args
-        → arguments_fit typing locals params args ≡ passed → arguments_fit typing (l ∷ locals) params args ≡ passed
+        → arguments_fit typing locals params args ≡ verdict_passed → arguments_fit typing (l ∷ locals) params args ≡ verdict_passed
     fit_under [] args n h = refl
     fit_under (p ∷ params) [] n h = refl
     fit_under (p ∷ params) (a ∷ args) n h =
@@ -136,8 +136,8 @@ module _ (setting : Setting) (classes : KnowsClasses setting.program) (run : Run
         ∙ both.0)
         (fit_under params args n.1 both.1)
 
-    pub new_after : (before args : List Ident) → AreNamed args → each_passes_after argument_new before args ≡ passed
-        → each_passes_after argument_new (element_name at ∷ before) args ≡ passed
+    pub new_after : (before args : List Ident) → AreNamed args → each_passes_after argument_new before args ≡ verdict_passed
+        → each_passes_after argument_new (element_name at ∷ before) args ≡ verdict_passed
     new_after before [] n h = refl
     new_after before (a ∷ args) n h =
         let both = both_passed (argument_new before a) (each_passes_after argument_new (before ++ a ∷ []) args) h in
@@ -149,9 +149,9 @@ module _ (setting : Setting) (classes : KnowsClasses setting.program) (run : Run
 
   pub slots_under : (at : ℕ) (k : Kind) (name : Ident) (index : Expression) (method : Ident) (args : List Ident)
       (static : ℕ) → AreNamed args → (o : Option ℕ)
-      → slot_rules typing locals at (Some (Item name index)) method args static o ≡ passed
+      → slot_rules typing locals at (Some (Item name index)) method args static o ≡ verdict_passed
       → slot_rules typing (record { name = []; kind = k } ∷ locals) at (Some (Whole (element_name at))) method args
-      static o ≡ passed
+      static o ≡ verdict_passed
   slots_under at k name index method args static n None h = absurd (cc)
   slots_under at k name index method args static n (Some slot) h =
       let params = parameters_of program (dispatch_in typing.table static slot) in
@@ -166,7 +166,7 @@ module _ (setting : Setting) (classes : KnowsClasses setting.program) (run : Run
       (fit_under at k params args n c.1)))
 
   pub call_element_keeps : (n at : ℕ) (back : Bool) (name : Ident) (index : Expression) (method : Ident)
-      (args : List Ident) (st : State) → call_rules typing locals at (Some (Item name index)) method args ≡ passed
+      (args : List Ident) (st : State) → call_rules typing locals at (Some (Item name index)) method args ≡ verdict_passed
       → HasWords index → IsNamed name → HasNames index → AreNamed args
       → Sound setting extra shape class st → Ends (Kept st)
       (statement setting n run (Call at back (Some (Item name index)) method args) st)
@@ -185,19 +185,19 @@ module _ (setting : Setting) (classes : KnowsClasses setting.program) (run : Run
       let swap_rest : Kind → Kind → Verdict = λ a b. in_turn (required (same_kind a b) (type_differs at))
       (required (not (in_either_index [] (Whole e) (Item name index) || in_either_index name.text (Whole e)
       (Item name index))) (self_update at)) in
-      let swapped : swap_rules typing inner at (Whole e) (Item name index) ≡ passed =
-      hands_on (place_type typing inner (Whole e)) (λ a. and_then (place_type typing inner (Item name index))
-      (λ b. swap_rest a b)) k passed receiver (hands_on (place_type typing inner (Item name index))
-      (λ b. swap_rest k b) k passed element
+      let swapped : swap_rules typing inner at (Whole e) (Item name index) ≡ verdict_passed =
+      hands_on (place_type typing inner (Whole e)) (λ a. then_checked (place_type typing inner (Item name index))
+      (λ b. swap_rest a b)) k verdict_passed receiver (hands_on (place_type typing inner (Item name index))
+      (λ b. swap_rest k b) k verdict_passed element
       (in_turn_passes (required (same_kind k k) (type_differs at)) _
       (required_passes _ (type_differs at) (same_as_itself k))
       (required_passes _ (self_update at) (ap (λ b. not (b || occurs name.text index)) (not_in index indexes)
       ∙ ap not r.apart)))) in
-      let called : call_rules typing inner at (Some (Whole e)) method args ≡ passed =
+      let called : call_rules typing inner at (Some (Whole e)) method args ≡ verdict_passed =
       hands_on (receiver_class typing inner (Some (Whole e)))
       (λ c. slot_rules typing inner at (Some (Whole e)) method args c (slot_in typing.table c method.text)) r.static
-      passed
-      (hands_on (place_type typing inner (Whole e)) (λ x. and_then (receiver_kind at x) (place_class at (Whole e))) k
+      verdict_passed
+      (hands_on (place_type typing inner (Whole e)) (λ x. then_checked (receiver_kind at x) (place_class at (Whole e))) k
       (Ok r.static) receiver refl)
       (slots_under at k name index method args r.static all (slot_in typing.table r.static method.text) r.rules) in
       with_local_keeps setting classes run keeps extra locals shape class inside means [] k (Null at)
@@ -206,5 +206,5 @@ module _ (setting : Setting) (classes : KnowsClasses setting.program) (run : Run
       (in_turn_passes (check_statement typing inner exchange)
       (check_statements typing inner (Then call (Then exchange End))) swapped
       (in_turn_passes (check_statement typing inner call) (check_statements typing inner (Then exchange End)) called
-      (in_turn_passes (check_statement typing inner exchange) passed swapped refl)))
+      (in_turn_passes (check_statement typing inner exchange) verdict_passed swapped refl)))
       ((tt, words), (tt, ((tt, words), tt))) s

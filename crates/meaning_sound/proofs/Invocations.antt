@@ -15,14 +15,14 @@ use Rattle.roopl_semantics.specs.class_rules.Names.{has_name}
 use Rattle.roopl_semantics.specs.class_rules.Refusal.{redeclared}
 use Rattle.roopl_semantics.specs.class_rules.Table.{table_of}
 use Rattle.roopl_semantics.specs.class_rules.Scope.{Typing, Local, Locals, local_kind, kind_of}
-use Rattle.roopl_semantics.specs.class_rules.Statements.{passed, each_passes_after, with_local as with_local_type, check_statements}
+use Rattle.roopl_semantics.specs.class_rules.Statements.{verdict_passed, each_passes_after, with_local as with_local_type, check_statements}
 use Rattle.roopl_semantics.specs.class_rules.Program.{setting_in, parameter_new, with_parameters}
 use Rattle.roopl_semantics.specs.Store.{Value, OfClass, Store, State, main_name}
 use Rattle.roopl_semantics.specs.Value.{Cell, read}
 use Rattle.roopl_semantics.specs.Execution.{Setting, Runner, bound, moved_out, in_direction, invoked}
 use Rattle.roopl_semantics.specs.Laws.{holders_among}
 use Rattle.roopl_semantics.specs.class_rules.Inheritance.{kind_of_var}
-use Rattle.meaning_sound.specs.Sound.{head_named, is_live, named_fits, AllFit, value_of, name_of, local_name}
+use Rattle.meaning_sound.specs.Sound.{head_named, is_live, named_fits, AllFit, bound_value, binding_name, local_name}
 use Rattle.meaning_sound.specs.Sound.{local_type, held, Sound, Stays, Keeps, Typed}
 use Rattle.meaning_sound.specs.Plain.{IsPlain}
 use Rattle.meaning_sound.proofs.Lists.{all_kept}
@@ -51,14 +51,14 @@ types_of_params program (var ∷ params) = ap (λ z. kind_of_var program var ∷
 
 pub bound_names : (program : Source) (store : Store) (params : List Var) (values : List Value)
     → AllFit program store (map (kind_of_var program) params) values
-    → map name_of (bound params values) ≡ map local_name (map (local_of program) params)
+    → map binding_name (bound params values) ≡ map local_name (map (local_of program) params)
 bound_names program store [] values all = refl
 bound_names program store (var ∷ params) [] all = absurd all
 bound_names program store (var ∷ params) (v ∷ values) all =
     ap (λ z. var.name.text ∷ z) (bound_names program store params values all.1)
 
 pub bound_values : (program : Source) (store : Store) (params : List Var) (values : List Value)
-    → AllFit program store (map (kind_of_var program) params) values → map value_of (bound params values) ≡ values
+    → AllFit program store (map (kind_of_var program) params) values → map bound_value (bound params values) ≡ values
 bound_values program store [] [] all = refl
 bound_values program store [] (v ∷ values) all = absurd all
 bound_values program store (var ∷ params) [] all = absurd all
@@ -100,7 +100,7 @@ now_there before var =
     ∙ true_or (has_field before var.name.text) _ (or_true (bytes_eq var.name.text var.name.text) false
     (equal_name var.name.text var.name.text refl))
 
-after_apart : (before vars : List Var) (name : List ℕ) → each_passes_after parameter_new before vars ≡ passed
+after_apart : (before vars : List Var) (name : List ℕ) → each_passes_after parameter_new before vars ≡ verdict_passed
     → has_field before name ≡ true → NotIn name vars
 after_apart before [] name h k = tt
 after_apart before (var ∷ vars) name h k =
@@ -117,7 +117,7 @@ after_apart before (var ∷ vars) name h k =
     by true e none = absurd (clash (has_field before name) k
         (ap (has_field before) (sym (same_name var.name.text name e)) ∙ none))
 
-params_distinct : (before vars : List Var) → each_passes_after parameter_new before vars ≡ passed → Distinct vars
+params_distinct : (before vars : List Var) → each_passes_after parameter_new before vars ≡ verdict_passed → Distinct vars
 params_distinct before [] h = tt
 params_distinct before (var ∷ vars) h =
     let both = both_passed (parameter_new before var) (each_passes_after parameter_new (before ++ var ∷ []) vars) h in (
@@ -167,7 +167,7 @@ either_order program class locals (var ∷ vars) name d =
         name) e)
 
 pub params_mean : (program : Source) (class : ℕ) (params : List Var)
-    → each_passes_after parameter_new [] params ≡ passed → MeansSame
+    → each_passes_after parameter_new [] params ≡ verdict_passed → MeansSame
     (with_parameters (setting_in program (table_of program) class) [] params) (map (local_of program) params)
 params_mean program class params h = record {
   same = λ name. either_order program class [] params name
@@ -232,7 +232,7 @@ module _ (setting : Setting) (classes : KnowsClasses setting.program) (run : Run
 
       -- how often a name is held besides, inside the call
       abbrev pub more : ℕ → ℕ
-      more m = extra m + holders_among m (map value_of caller.frame) + holders_among m received
+      more m = extra m + holders_among m (map bound_value caller.frame) + holders_among m received
 
       abbrev pub callee : Locals
       callee = map (local_of program) method.params
@@ -274,23 +274,23 @@ module _ (setting : Setting) (classes : KnowsClasses setting.program) (run : Run
       more_extra m p = omega arith
 
       pub live_more : (m : ℕ) → 0 < more m → is_live caller.store m ≡ true
-      live_more m p = by (nat_lt 0 (extra m)) refl (nat_lt 0 (holders_among m (map value_of caller.frame))) refl
+      live_more m p = by (nat_lt 0 (extra m)) refl (nat_lt 0 (holders_among m (map bound_value caller.frame))) refl
         where
           by : (a : Bool) → nat_lt 0 (extra m) ≡ a → (b : Bool)
-              → nat_lt 0 (holders_among m (map value_of caller.frame)) ≡ b → is_live caller.store m ≡ true
+              → nat_lt 0 (holders_among m (map bound_value caller.frame)) ≡ b → is_live caller.store m ≡ true
           by true e b f = out.moved.typed.lives m (ltb-true 0 (extra m) e)
-          by false e true f = all_live program caller.store (map local_type shape) (map value_of caller.frame) m
-              out.moved.typed.variables (ltb-true 0 (holders_among m (map value_of caller.frame)) f)
+          by false e true f = all_live program caller.store (map local_type shape) (map bound_value caller.frame) m
+              out.moved.typed.variables (ltb-true 0 (holders_among m (map bound_value caller.frame)) f)
           by false e false f =
               let x = ltb-false 0 (extra m) e in
-              let y = ltb-false 0 (holders_among m (map value_of caller.frame)) f in
+              let y = ltb-false 0 (holders_among m (map bound_value caller.frame)) f in
               all_live program caller.store receiver_kinds received m received_fit (omega arith)
 
       pub begun_sound : Sound setting more callee call.found.class begun
       begun_sound = record {
         names = bound_names program caller.store method.params given given_fit;
         variables =
-            subst (λ ks. AllFit program caller.store ks (map value_of (bound method.params given)))
+            subst (λ ks. AllFit program caller.store ks (map bound_value (bound method.params given)))
             (sym (types_of_params program method.params))
             (subst (AllFit program caller.store (map (kind_of_var program) method.params))
             (sym (bound_values program caller.store method.params given given_fit)) given_fit);
@@ -316,7 +316,7 @@ module _ (setting : Setting) (classes : KnowsClasses setting.program) (run : Run
 
       pub body_checks : (b : Bool) → check_statements (setting_in program (table_of program) call.found.class)
           (with_parameters (setting_in program (table_of program) call.found.class) [] method.params)
-          (in_direction b method.body) ≡ passed
+          (in_direction b method.body) ≡ verdict_passed
       body_checks b =
           let both = both_passed (each_passes_after parameter_new [] method.params)
           (check_statements (setting_in program (table_of program) call.found.class)
@@ -326,9 +326,9 @@ module _ (setting : Setting) (classes : KnowsClasses setting.program) (run : Run
         where
           by : (b : Bool) → check_statements (setting_in program (table_of program) call.found.class)
               (with_parameters (setting_in program (table_of program) call.found.class) [] method.params) method.body
-              ≡ passed → check_statements (setting_in program (table_of program) call.found.class)
+              ≡ verdict_passed → check_statements (setting_in program (table_of program) call.found.class)
               (with_parameters (setting_in program (table_of program) call.found.class) [] method.params)
-              (in_direction b method.body) ≡ passed
+              (in_direction b method.body) ≡ verdict_passed
           by true h = inverse_checks (setting_in program (table_of program) call.found.class)
               (with_parameters (setting_in program (table_of program) call.found.class) [] method.params) method.body h
           by false h = h
@@ -348,7 +348,7 @@ module _ (setting : Setting) (classes : KnowsClasses setting.program) (run : Run
         after = record caller { store = end.store; log = end.log }
 
         abbrev pub returned : List Value
-        returned = received ++ map value_of end.frame
+        returned = received ++ map bound_value end.frame
 
         pub heads_after : (m : ℕ) → 0 < more m → head_named end.store m ≡ head_named caller.store m
         heads_after m p = kept.stays.heads_same m p
@@ -356,7 +356,7 @@ module _ (setting : Setting) (classes : KnowsClasses setting.program) (run : Run
         pub after_typed : Typed setting extra shape class after
         after_typed = record {
           names = out.moved.typed.names;
-          variables = all_kept program caller.store end.store (map local_type shape) (map value_of caller.frame)
+          variables = all_kept program caller.store end.store (map local_type shape) (map bound_value caller.frame)
               (λ m p l. heads_after m (omega arith)) out.moved.typed.variables;
           objects = kept.sound.objects;
           lives = λ m p. kept.sound.lives m (more_extra m p);
@@ -369,10 +369,10 @@ module _ (setting : Setting) (classes : KnowsClasses setting.program) (run : Run
         }
 
         pub returned_fit : AllFit program end.store (receiver_kinds ++ kinds) returned
-        returned_fit = all_append program end.store receiver_kinds kinds received (map value_of end.frame)
+        returned_fit = all_append program end.store receiver_kinds kinds received (map bound_value end.frame)
             (all_kept program caller.store end.store receiver_kinds received (λ m p l. heads_after m (omega arith))
             received_fit)
-            (subst (λ ks. AllFit program end.store ks (map value_of end.frame))
+            (subst (λ ks. AllFit program end.store ks (map bound_value end.frame))
             (types_of_params program method.params ∙ call.found.same_types) kept.sound.variables)
 
         pub cells_after : CellsHave program shape end.store (receiver_kinds ++ kinds) (receiver ++ args)
@@ -396,11 +396,11 @@ module _ (setting : Setting) (classes : KnowsClasses setting.program) (run : Run
             counts = λ m c q.
                 let x = kept.sound.counts m c (sym (b.moved.counts m) ∙ q) in
                 let y = b.holds m in
-                let z = holders_append m received (map value_of end.frame) in
+                let z = holders_append m received (map bound_value end.frame) in
                 omega arith;
             main_unheld =
                 let y = b.holds main_name in
-                let z = holders_append main_name received (map value_of end.frame) in
+                let z = holders_append main_name received (map bound_value end.frame) in
                 let w = kept.sound.main_unheld in
                 let v = held_all main_name in
                 let u = call.sound.main_unheld in

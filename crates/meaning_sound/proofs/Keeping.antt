@@ -4,7 +4,7 @@ use Rattle.roopl_semantics.specs.rpp_tree.Tree.{Object as AnObject, Ints, Object
 use Rattle.roopl_semantics.specs.rpp_tree.Tree.{From, Construct, Local, New, Delete, Copy, Uncopy, Call, Skip, End, Then}
 use Rattle.roopl_semantics.specs.class_rules.Table.{table_of}
 use Rattle.roopl_semantics.specs.class_rules.Scope.{Typing, Locals, kind_of}
-use Rattle.roopl_semantics.specs.class_rules.Statements.{passed, in_turn, test_rules, local_rules, construct_rules, with_local}
+use Rattle.roopl_semantics.specs.class_rules.Statements.{verdict_passed, in_turn, test_rules, local_rules, construct_rules, with_local}
 use Rattle.roopl_semantics.specs.class_rules.Statements.{with_object, check_statement, check_statements}
 use Rattle.roopl_semantics.specs.class_rules.Program.{setting_in}
 use Rattle.roopl_semantics.specs.Store.{State}
@@ -29,7 +29,7 @@ module _ (setting : Setting) (classes : KnowsClasses setting.program) (run : Run
   abbrev typing : Typing
   typing = setting_in setting.program (table_of setting.program) class
 
-  pub statement_keeps : (n : ℕ) (s : Statement) (st : State) → check_statement typing locals s ≡ passed
+  pub statement_keeps : (n : ℕ) (s : Statement) (st : State) → check_statement typing locals s ≡ verdict_passed
       → StatementIsPlain s → Sound setting extra shape class st
       → Ends (Keeps setting extra shape class st) (statement setting n run s st)
   statement_keeps n (Update at op target value) st h p s =
@@ -90,7 +90,7 @@ exec_keeps setting classes zero = record { by = by }
   where
     by : (extra : ℕ → ℕ) (locals shape : Locals) (class : ℕ) (body : Statements) (st : State)
         → class < length setting.program.classes → MeansSame locals shape
-        → check_statements (setting_in setting.program (table_of setting.program) class) locals body ≡ passed
+        → check_statements (setting_in setting.program (table_of setting.program) class) locals body ≡ verdict_passed
         → IsPlain body → Sound setting extra shape class st
         → Ends (Keeps setting extra shape class st) (exec setting zero body st)
     by extra locals shape class End st inside means h p s = keeps_itself setting extra shape class st s
@@ -99,7 +99,7 @@ exec_keeps setting classes (suc n) = record { by = by (exec_keeps setting classe
   where
     by : KeepsAll setting (exec setting n) → (extra : ℕ → ℕ) (locals shape : Locals) (class : ℕ) (body : Statements)
         (st : State) → class < length setting.program.classes → MeansSame locals shape
-        → check_statements (setting_in setting.program (table_of setting.program) class) locals body ≡ passed
+        → check_statements (setting_in setting.program (table_of setting.program) class) locals body ≡ verdict_passed
         → IsPlain body → Sound setting extra shape class st
         → Ends (Keeps setting extra shape class st) (exec setting (suc n) body st)
     by keeps extra locals shape class End st inside means h p s = keeps_itself setting extra shape class st s

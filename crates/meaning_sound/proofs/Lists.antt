@@ -7,7 +7,7 @@ use Rattle.roopl_semantics.specs.rpp_tree.Tree.{Source}
 use Rattle.roopl_semantics.specs.class_rules.declared.kind.Kind.{Kind}
 use Rattle.roopl_semantics.specs.Store.{Value, Word, Nil, Name, Head, Store}
 use Rattle.roopl_semantics.specs.Laws.{one_if_name, holders_among}
-use Rattle.meaning_sound.specs.Sound.{head_named, is_live, fits, AllFit, named_fits}
+use Rattle.meaning_sound.specs.Sound.{head_named, is_live, is_of_kind, AllFit, named_fits}
 
 -- a place of the list of types is one of the list of values
 pub all_inside : (program : Source) (store : Store) (ks : List Kind) (vs : List Value) (i : ℕ) (k : Kind)
@@ -27,20 +27,20 @@ all_length program store (k ∷ ks) (v ∷ vs) all = ap suc (all_length program 
 
 pub all_get : (program : Source) (store : Store) (ks : List Kind) (vs : List Value) (i : ℕ) (k : Kind)
     → AllFit program store ks vs → slice_get ks i ≡ Some k
-    → fits program store (unwrap_or (slice_get vs i) Nil) k ≡ true
+    → is_of_kind program store (unwrap_or (slice_get vs i) Nil) k ≡ true
 all_get program store [] vs i k all h = absurd (cc)
 all_get program store (x ∷ ks) [] i k all h = absurd all
 all_get program store (x ∷ ks) (v ∷ vs) zero k all h = let e : x ≡ k = cc in
-    subst (λ z. fits program store v z ≡ true) e all.0
+    subst (λ z. is_of_kind program store v z ≡ true) e all.0
 all_get program store (x ∷ ks) (v ∷ vs) (suc i) k all h = all_get program store ks vs i k all.1 h
 
 pub all_set : (program : Source) (store : Store) (ks : List Kind) (vs : List Value) (i : ℕ) (k : Kind) (w : Value)
-    → AllFit program store ks vs → slice_get ks i ≡ Some k → fits program store w k ≡ true
+    → AllFit program store ks vs → slice_get ks i ≡ Some k → is_of_kind program store w k ≡ true
     → AllFit program store ks (slice_set vs i w)
 all_set program store [] vs i k w all h f = absurd (cc)
 all_set program store (x ∷ ks) [] i k w all h f = absurd all
 all_set program store (x ∷ ks) (v ∷ vs) zero k w all h f = let e : x ≡ k = cc in
-    (subst (λ z. fits program store w z ≡ true) (sym e) f, all.1)
+    (subst (λ z. is_of_kind program store w z ≡ true) (sym e) f, all.1)
 all_set program store (x ∷ ks) (v ∷ vs) (suc i) k w all h f = (all.0, all_set program store ks vs i k w all.1 h f)
 
 pub holders_set : (n : ℕ) (vs : List Value) (i : ℕ) (w : Value) → i < length vs
@@ -59,7 +59,7 @@ holders_get n (v ∷ vs) (suc i) = let r = holders_get n vs i in omega arith
 -- a value is of its type in another store, if what it names has the same head
 pub fits_kept : (program : Source) (store other : Store) (v : Value) (k : Kind)
     → ((m : ℕ) → 0 < one_if_name m v → is_live store m ≡ true → head_named other m ≡ head_named store m)
-    → fits program store v k ≡ true → fits program other v k ≡ true
+    → is_of_kind program store v k ≡ true → is_of_kind program other v k ≡ true
 fits_kept program store other (Word w) k h f = f
 fits_kept program store other Nil k h f = f
 fits_kept program store other (Name n) k h f =

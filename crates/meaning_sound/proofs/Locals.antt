@@ -16,16 +16,16 @@ use Rattle.roopl_semantics.specs.class_rules.Table.{Table, table_of, class_of}
 use Rattle.roopl_semantics.specs.class_rules.Refusal.{unknown_name, type_differs, redeclared, local_in_own_expression}
 use Rattle.roopl_semantics.specs.class_rules.Scope.{Typing, Local, Locals, local_kind, kind_in, field_kind, kind_of}
 use Rattle.roopl_semantics.specs.class_rules.Scope.{class_kind, array_kind}
-use Rattle.roopl_semantics.specs.class_rules.Expressions.{and_then, is_int, occurs, type_of, variable_type, element_of, index_is_int}
+use Rattle.roopl_semantics.specs.class_rules.Expressions.{then_checked, is_int, occurs, type_of, variable_type, element_kind_of, index_is_int}
 use Rattle.roopl_semantics.specs.class_rules.Expressions.{operator_type, first_token}
-use Rattle.roopl_semantics.specs.class_rules.Statements.{passed, required, type_known, is_nil_word, local_rules, check_statements}
+use Rattle.roopl_semantics.specs.class_rules.Statements.{verdict_passed, required, type_known, is_nil_word, local_rules, check_statements}
 use Rattle.roopl_semantics.specs.class_rules.Program.{setting_in}
 use Rattle.roopl_semantics.specs.Run.{give}
 use Rattle.roopl_semantics.specs.Store.{Value, Word, Nil, Name, Store, Binding, State, main_name, same_value}
 use Rattle.roopl_semantics.specs.Value.{Slot, value_at, read, value as value_in}
 use Rattle.roopl_semantics.specs.Execution.{Setting, Runner, opened, closed, rest_of, DELOCAL, with_local}
 use Rattle.roopl_semantics.specs.Laws.{one_if_name, holders_among}
-use Rattle.meaning_sound.specs.Sound.{fits, AllFit, value_of, name_of, local_name, local_type, Sound, Keeps, Typed}
+use Rattle.meaning_sound.specs.Sound.{is_of_kind, AllFit, bound_value, binding_name, local_name, local_type, Sound, Keeps, Typed}
 use Rattle.meaning_sound.specs.Plain.{HasWords, IsPlain}
 use Rattle.meaning_sound.proofs.Cells.{typed_of}
 use Rattle.meaning_sound.proofs.Classes.{KnowsClasses}
@@ -57,16 +57,16 @@ type_of_under typing l locals (Element name index) h =
     let both = none_of_two (bytes_eq name.text l.name) (occurs l.name index) h in
     let array : variable_type typing (l ∷ locals) name ≡ variable_type typing locals name =
     ap (λ z. ok_or z (unknown_name name.at)) (kind_in_under typing l locals name.text both.0) in
-    ap (λ z. and_then z (λ array. and_then (element_of name array)
-    (λ element. and_then (type_of typing (l ∷ locals) index) (index_is_int element (first_token index))))) array
-    ∙ ap (λ z. and_then (variable_type typing locals name)
-    (λ array. and_then (element_of name array) (λ element. and_then z
+    ap (λ z. then_checked z (λ array. then_checked (element_kind_of name array)
+    (λ element. then_checked (type_of typing (l ∷ locals) index) (index_is_int element (first_token index))))) array
+    ∙ ap (λ z. then_checked (variable_type typing locals name)
+    (λ array. then_checked (element_kind_of name array) (λ element. then_checked z
     (index_is_int element (first_token index))))) (type_of_under typing l locals index both.1)
 type_of_under typing l locals (Binary at operator left right) h =
     let both = none_of_two (occurs l.name left) (occurs l.name right) h in
-    ap (λ z. and_then z (λ a. and_then (type_of typing (l ∷ locals) right)
+    ap (λ z. then_checked z (λ a. then_checked (type_of typing (l ∷ locals) right)
     (λ b. operator_type typing.table at operator a b))) (type_of_under typing l locals left both.0)
-    ∙ ap (λ z. and_then (type_of typing locals left) (λ a. and_then z
+    ∙ ap (λ z. then_checked (type_of typing locals left) (λ a. then_checked z
     (λ b. operator_type typing.table at operator a b))) (type_of_under typing l locals right both.1)
 
 pub means_under : (l : Local) (locals shape : Locals) → MeansSame locals shape → MeansSame (l ∷ locals) (l ∷ shape)
@@ -103,7 +103,7 @@ passes_not false h = absurd (cc)
 -- ---- a variable that appears and goes
 
 pub opened_sound : (setting : Setting) (extra : ℕ → ℕ) (shape : Locals) (class : ℕ) (st : State) (name : List ℕ)
-    (k : Kind) (v : Value) → Sound setting extra shape class st → fits setting.program st.store v k ≡ true → HoldsNone v
+    (k : Kind) (v : Value) → Sound setting extra shape class st → is_of_kind setting.program st.store v k ≡ true → HoldsNone v
     → Sound setting extra (record { name = name; kind = k } ∷ shape) class (opened name v st)
 opened_sound setting extra shape class st name k v s f none = record {
   names = ap (λ z. name ∷ z) s.names;
@@ -121,14 +121,14 @@ opened_sound setting extra shape class st name k v s f none = record {
 
 -- the variables except for the innermost
 record Closed (setting : Setting) (store : Store) (l : Local) (shape : Locals) (frame : List Binding) : Type 0 where
-  pub names : map name_of (rest_of frame) ≡ map local_name shape
-  pub variables : AllFit setting.program store (map local_type shape) (map value_of (rest_of frame))
-  pub holders : (m : ℕ) → holders_among m (map value_of frame)
-      ≡ one_if_name m (value_at frame 0) + holders_among m (map value_of (rest_of frame))
+  pub names : map binding_name (rest_of frame) ≡ map local_name shape
+  pub variables : AllFit setting.program store (map local_type shape) (map bound_value (rest_of frame))
+  pub holders : (m : ℕ) → holders_among m (map bound_value frame)
+      ≡ one_if_name m (value_at frame 0) + holders_among m (map bound_value (rest_of frame))
 
 closes : (setting : Setting) (store : Store) (l : Local) (shape : Locals) (frame : List Binding)
-    → map name_of frame ≡ map local_name (l ∷ shape) → AllFit setting.program store (map local_type (l ∷ shape))
-    (map value_of frame) → Closed setting store l shape frame
+    → map binding_name frame ≡ map local_name (l ∷ shape) → AllFit setting.program store (map local_type (l ∷ shape))
+    (map bound_value frame) → Closed setting store l shape frame
 closes setting store l shape [] names all = absurd all
 closes setting store l shape (b ∷ frame) names all = record
     { names = tails names; variables = all.1; holders = λ m. refl }
@@ -169,15 +169,15 @@ module _ (setting : Setting) (classes : KnowsClasses setting.program) (run : Run
 
   pub begins : (st : State) (name : List ℕ) (k : Kind) (e : Expression) (v : Value) → Typed setting extra shape class st
       → IsLocalEnd typing locals name k e → value_in program st e ≡ Ok v
-      → (fits program st.store v k ≡ true) × HoldsNone v
+      → (is_of_kind program st.store v k ≡ true) × HoldsNone v
   begins st name k e v t (int_end x is typed words apart) q =
       let f = value_found program st.store kind.Int (value_in program st e) v
       (value_fits setting classes extra locals shape class inside means st e kind.Int t words typed) q in
       let i = int_value program st.store v f in
-      (subst (λ z. fits program st.store v z ≡ true) (sym is) f, λ m. ap (one_if_name m) i.is)
+      (subst (λ z. is_of_kind program st.store v z ≡ true) (sym is) f, λ m. ap (one_if_name m) i.is)
   begins st name k e v t (nil_end at no_int) q =
       let n : Nil ≡ v = cc in
-      (subst (λ z. fits program st.store z k ≡ true) n (ap not no_int), λ m. ap (one_if_name m) (sym n))
+      (subst (λ z. is_of_kind program st.store z k ≡ true) n (ap not no_int), λ m. ap (one_if_name m) (sym n))
 
   pub ends_with : (end : State) (name : List ℕ) (k : Kind) (e : Expression) (w : Value)
       → Typed setting extra (record { name = name; kind = k } ∷ shape) class end → IsLocalEnd typing locals name k e
@@ -194,7 +194,7 @@ module _ (setting : Setting) (classes : KnowsClasses setting.program) (run : Run
   pub with_local_keeps : (name : List ℕ) (k : Kind) (value : Expression) (body : Statements) (end_value : Expression)
       (st : State)
       → IsLocalEnd typing locals name k value → IsLocalEnd typing locals name k end_value
-      → check_statements typing (record { name = name; kind = k } ∷ locals) body ≡ passed → IsPlain body
+      → check_statements typing (record { name = name; kind = k } ∷ locals) body ≡ verdict_passed → IsPlain body
       → Sound setting extra shape class st → Ends (Kept st) (with_local setting run name value body end_value st)
   with_local_keeps name k value body end_value st first last checked plain s =
       let l : Local = record { name = name; kind = k } in
@@ -252,12 +252,12 @@ nil_of typing locals name k (Binary at operator left right) h n = absurd (cc)
 -- what the rules of a `local` say
 pub record LocalParts (typing : Typing) (locals : Locals) (var : Var) (value : Expression) (end_var : Var)
     (end_value : Expression) : Type 0 where
-  pub known : type_known typing.table var.kind ≡ passed
+  pub known : type_known typing.table var.kind ≡ verdict_passed
   pub first : IsLocalEnd typing locals var.name.text (kind_of typing.table var.kind) value
   pub last : IsLocalEnd typing locals var.name.text (kind_of typing.table var.kind) end_value
 
 pub local_parts : (typing : Typing) (locals : Locals) (at : ℕ) (var : Var) (value : Expression) (end_var : Var)
-    (end_value : Expression) → local_rules typing locals at var value end_var end_value ≡ passed → HasWords value
+    (end_value : Expression) → local_rules typing locals at var value end_var end_value ≡ verdict_passed → HasWords value
     → HasWords end_value → LocalParts typing locals var value end_var end_value
 local_parts typing locals at var value end_var end_value h wv we =
     let a = both_passed (type_known typing.table var.kind) _ h in
@@ -270,7 +270,7 @@ local_parts typing locals at var value end_var end_value h wv we =
     let e = handed_on (type_of typing locals end_value) _ tt v.goes in
     by a.0 apart.0 apart.1 v.value e.value v.is e.is (is_type_int var.kind) refl (was_held _ (type_differs at) e.goes)
   where
-    by : type_known typing.table var.kind ≡ passed → occurs var.name.text value ≡ false
+    by : type_known typing.table var.kind ≡ verdict_passed → occurs var.name.text value ≡ false
         → occurs var.name.text end_value ≡ false → (v e : Kind) → type_of typing locals value ≡ Ok v
         → type_of typing locals end_value ≡ Ok e → (int : Bool) → is_type_int var.kind ≡ int
         → (if int then is_int v && is_int e else is_nil_word value && is_nil_word end_value) ≡ true

@@ -16,13 +16,13 @@ use Rattle.roopl_semantics.specs.rpp_tree.Tree.{Expression, Lvalue, Creation, Ob
 use Rattle.roopl_semantics.specs.rpp_tree.Tree.{Uncopy, Source, nodes, index_nodes}
 use Rattle.roopl_semantics.specs.class_rules.declared.kind.Kind.{Kind}
 use Rattle.roopl_semantics.specs.class_rules.declared.kind.Kind.TheVariants as kind
-use Rattle.roopl_semantics.specs.class_rules.Rules.{class_names, name_of as class_name}
+use Rattle.roopl_semantics.specs.class_rules.Rules.{all_class_names, class_name as class_name}
 use Rattle.roopl_semantics.specs.class_rules.Classes.{class_fields, class_number, inherits}
 use Rattle.roopl_semantics.specs.class_rules.Table.{Table, table_of, class_of, inherits_in}
 use Rattle.roopl_semantics.specs.class_rules.Refusal.{type_differs}
 use Rattle.roopl_semantics.specs.class_rules.Scope.{Typing, Locals, kind_of, class_kind, array_kind}
 use Rattle.roopl_semantics.specs.class_rules.Expressions.{is_int, element_kind, place_type}
-use Rattle.roopl_semantics.specs.class_rules.Statements.{passed, required, is_class, is_int_array, takes_object, takes_object_of}
+use Rattle.roopl_semantics.specs.class_rules.Statements.{verdict_passed, required, is_class, is_int_array, takes_object, takes_object_of}
 use Rattle.roopl_semantics.specs.class_rules.Statements.{takes_objects_of, takes, made_known, length_is_int, make_rules, type_known}
 use Rattle.roopl_semantics.specs.class_rules.Statements.{is_class_array, takes_copy, written_kind, copy_rules}
 use Rattle.roopl_semantics.specs.class_rules.Program.{setting_in}
@@ -34,11 +34,11 @@ use Rattle.roopl_semantics.specs.Value.{Cell, read, written, value as value_in, 
 use Rattle.roopl_semantics.specs.Elements.{SHARED_ARRAY, index_elements, own_element, share_array, read_cost}
 use Rattle.roopl_semantics.specs.Execution.{Setting, Runner, NOT_NIL, COUNT, NOT_EMPTY}
 use Rattle.roopl_semantics.specs.Execution.{CLASS_DIFFERS, LENGTH_DIFFERS, LENGTH, NOT_SAME}
-use Rattle.roopl_semantics.specs.Execution.{same_cell, is_of_class, all_zero, allocated, freed, counted, one_less}
+use Rattle.roopl_semantics.specs.Execution.{same_cell, is_of_class, all_zero, allocated, freed, count_changed, one_less}
 use Rattle.roopl_semantics.specs.Execution.{new_array, delete_array, statement}
 use Rattle.roopl_semantics.specs.Laws.{one_if_name, holders_among}
 use Rattle.roopl_semantics.specs.class_rules.Inheritance.{is_or_inherits, kind_of_var}
-use Rattle.meaning_sound.specs.Sound.{head_named, head_fits, named_fits, fits, cell_kinds, AllFit, cell_kind, Sound}
+use Rattle.meaning_sound.specs.Sound.{head_named, head_fits, named_fits, is_of_kind, cell_kinds, AllFit, cell_kind, Sound}
 use Rattle.meaning_sound.specs.Sound.{Keeps}
 use Rattle.meaning_sound.proofs.Cells.{typed_of, read_fits}
 use Rattle.meaning_sound.proofs.Classes.{KnowsClasses}
@@ -54,18 +54,18 @@ use Rattle.meaning_sound.proofs.Removal.{IsName, reference, not_less, freed_keep
 -- ---- the zeros of a new object or array
 
 zero_fits : (program : Source) (store : Store) (var : Var)
-    → fits program store (zero_value var.kind) (kind_of_var program var) ≡ true
+    → is_of_kind program store (zero_value var.kind) (kind_of_var program var) ≡ true
 zero_fits program store var = by var.kind
   where
-    by_class : (o : Option ℕ) → fits program store Nil (class_kind o) ≡ true
+    by_class : (o : Option ℕ) → is_of_kind program store Nil (class_kind o) ≡ true
     by_class None = refl
     by_class (Some c) = refl
 
-    by_array : (o : Option ℕ) → fits program store Nil (array_kind o) ≡ true
+    by_array : (o : Option ℕ) → is_of_kind program store Nil (array_kind o) ≡ true
     by_array None = refl
     by_array (Some c) = refl
 
-    by : (t : VarType) → fits program store (zero_value t) (kind_of (table_of program) t) ≡ true
+    by : (t : VarType) → is_of_kind program store (zero_value t) (kind_of (table_of program) t) ≡ true
     by type.Int = refl
     by (type.Class name) = by_class (class_of (table_of program) name.text)
     by type.IntArray = refl
@@ -86,7 +86,7 @@ zeros_hold_none (var ∷ vars) m = let a = by var.kind in let b = zeros_hold_non
     by type.IntArray = refl
     by (type.ClassArray name) = refl
 
-pub same_fit : (program : Source) (store : Store) (k : Kind) (v : Value) (n : ℕ) → fits program store v k ≡ true
+pub same_fit : (program : Source) (store : Store) (k : Kind) (v : Value) (n : ℕ) → is_of_kind program store v k ≡ true
     → AllFit program store (replicate n k) (replicate n v)
 same_fit program store k v zero h = tt
 same_fit program store k v (suc n) h = (h, same_fit program store k v n h)
@@ -104,7 +104,7 @@ pub record MadePlace (typing : Typing) (locals : Locals) (made : Creation) (plac
   pub takes_it : takes typing.table made type ≡ true
 
 pub made_place : (typing : Typing) (locals : Locals) (at : ℕ) (made : Creation) (place : Lvalue)
-    → make_rules typing locals at made place ≡ passed → MadePlace typing locals made place
+    → make_rules typing locals at made place ≡ verdict_passed → MadePlace typing locals made place
 made_place typing locals at made place h =
     let known = both_passed (made_known typing.table made) _ h in
     let p = handed_on (place_type typing locals place) _ tt known.1 in
@@ -138,7 +138,7 @@ no_int_takes table (Objects class length) kind.Int h = absurd (by (class_of tabl
 pub class_is_inside : (program : Source) (name : List ℕ) (c : ℕ) → class_of (table_of program) name ≡ Some c
     → c < length program.classes
 class_is_inside program name c h =
-    let a = (position-Some (bytes_eq name) (class_names program) c [] h).0 in
+    let a = (position-Some (bytes_eq name) (all_class_names program) c [] h).0 in
     omega (arith, length-map program.classes class_name)
 
 turned : (a b : ℕ) → nat_eq a b ≡ true → nat_eq b a ≡ true
@@ -240,7 +240,7 @@ module _ (setting : Setting) (classes : KnowsClasses setting.program) (run : Run
       (typed_of setting extra shape class st s) h) e
 
   pub new_object_keeps : (n at : ℕ) (name : Ident) (target : Lvalue) (st : State)
-      → make_rules typing locals at (AnObject name) target ≡ passed → Sound setting extra shape class st
+      → make_rules typing locals at (AnObject name) target ≡ verdict_passed → Sound setting extra shape class st
       → Ends (Kept st) (statement setting n run (New at (AnObject name) target) st)
   new_object_keeps n at name target st h s =
       let p = made_place typing locals at (AnObject name) target h in
@@ -271,7 +271,7 @@ module _ (setting : Setting) (classes : KnowsClasses setting.program) (run : Run
   new_array_keeps : (target : Lvalue) (size : Expression) (head : ℕ → Head) (element : Value) (k : Kind)
       (elements : Kind) (st : State) → place_type typing locals target ≡ Ok k
       → ((n : ℕ) → cell_kinds program (head n) ≡ replicate n elements) → ((n : ℕ) → head_fits program k (head n) ≡ true)
-      → ((store : Store) → fits program store element elements ≡ true) → ((m : ℕ) → one_if_name m element ≡ 0)
+      → ((store : Store) → is_of_kind program store element elements ≡ true) → ((m : ℕ) → one_if_name m element ≡ 0)
       → Sound setting extra shape class st → Ends (Kept st) (new_array setting target size head element st)
   new_array_keeps target size head element k elements st h kinds fit element_fits none s =
       ends_given (Kept st) (index_nodes target) (cell_of program st target) _ (λ cell e.
@@ -297,7 +297,7 @@ module _ (setting : Setting) (classes : KnowsClasses setting.program) (run : Run
           (λ st'. spend n >>= (λ z. give st'))))
 
   pub new_ints_keeps : (n at : ℕ) (size : Expression) (target : Lvalue) (st : State)
-      → make_rules typing locals at (Ints size) target ≡ passed → Sound setting extra shape class st
+      → make_rules typing locals at (Ints size) target ≡ verdict_passed → Sound setting extra shape class st
       → Ends (Kept st) (statement setting n run (New at (Ints size) target) st)
   new_ints_keeps n at size target st h s =
       let p = made_place typing locals at (Ints size) target h in
@@ -305,7 +305,7 @@ module _ (setting : Setting) (classes : KnowsClasses setting.program) (run : Run
       (λ n. ints_fit program p.type n p.takes_it) (λ store. refl) (λ m. refl) s
 
   pub new_objects_keeps : (n at : ℕ) (name : Ident) (size : Expression) (target : Lvalue) (st : State)
-      → make_rules typing locals at (Objects name size) target ≡ passed → Sound setting extra shape class st
+      → make_rules typing locals at (Objects name size) target ≡ verdict_passed → Sound setting extra shape class st
       → Ends (Kept st) (statement setting n run (New at (Objects name size) target) st)
   new_objects_keeps n at name size target st h s =
       let p = made_place typing locals at (Objects name size) target h in
@@ -329,7 +329,7 @@ module _ (setting : Setting) (classes : KnowsClasses setting.program) (run : Run
       one (not_less _ zeros)
 
   pub delete_object_keeps : (n at : ℕ) (name : Ident) (target : Lvalue) (st : State)
-      → make_rules typing locals at (AnObject name) target ≡ passed → Sound setting extra shape class st
+      → make_rules typing locals at (AnObject name) target ≡ verdict_passed → Sound setting extra shape class st
       → Ends (Kept st) (statement setting n run (Delete at (AnObject name) target) st)
   delete_object_keeps n at name target st h s =
       let p = made_place typing locals at (AnObject name) target h in
@@ -376,14 +376,14 @@ module _ (setting : Setting) (classes : KnowsClasses setting.program) (run : Run
       gone st cell k s (cell_is st target k cell s h e) no_int q u w)))))))
 
   pub delete_ints_keeps : (n at : ℕ) (size : Expression) (target : Lvalue) (st : State)
-      → make_rules typing locals at (Ints size) target ≡ passed → Sound setting extra shape class st
+      → make_rules typing locals at (Ints size) target ≡ verdict_passed → Sound setting extra shape class st
       → Ends (Kept st) (statement setting n run (Delete at (Ints size) target) st)
   delete_ints_keeps n at size target st h s =
       let p = made_place typing locals at (Ints size) target h in
       delete_array_keeps target size p.type st p.is (no_int_takes (table_of program) (Ints size) p.type p.takes_it) s
 
   pub delete_objects_keeps : (n at : ℕ) (name : Ident) (size : Expression) (target : Lvalue) (st : State)
-      → make_rules typing locals at (Objects name size) target ≡ passed → Sound setting extra shape class st
+      → make_rules typing locals at (Objects name size) target ≡ verdict_passed → Sound setting extra shape class st
       → Ends (Kept st) (statement setting n run (Delete at (Objects name size) target) st)
   delete_objects_keeps n at name size target st h s =
       let p = made_place typing locals at (Objects name size) target h in
@@ -402,12 +402,12 @@ module _ (setting : Setting) (classes : KnowsClasses setting.program) (run : Run
     pub second_refers : is_int second ≡ false
     pub as_array : is_array first ≡ is_array second
     pub no_element : element_kind second ≡ Some first → ⊥
-    pub below : (store : Store) (n : ℕ) → fits program store (Name n) first ≡ true
-        → fits program store (Name n) second ≡ true
+    pub below : (store : Store) (n : ℕ) → is_of_kind program store (Name n) first ≡ true
+        → is_of_kind program store (Name n) second ≡ true
 
   -- a value of a class is of one above it
   pub above_fits : (store : Store) (n a b : ℕ) → is_or_inherits program a b ≡ true
-      → fits program store (Name n) (kind.Class a) ≡ true → fits program store (Name n) (kind.Class b) ≡ true
+      → is_of_kind program store (Name n) (kind.Class a) ≡ true → is_of_kind program store (Name n) (kind.Class b) ≡ true
   above_fits store n a b h f = by (head_named store n) f
     where
       by : (o : Option Head) → named_fits program (kind.Class a) o ≡ true → named_fits program (kind.Class b) o ≡ true
@@ -435,7 +435,7 @@ module _ (setting : Setting) (classes : KnowsClasses setting.program) (run : Run
       by (Some d) q = absurd (cc)
 
   pub copy_parts : (at : ℕ) (written : VarType) (source target : Lvalue)
-      → copy_rules typing locals at written source target ≡ passed → CopyParts source target
+      → copy_rules typing locals at written source target ≡ verdict_passed → CopyParts source target
   copy_parts at written source target h =
       let known = both_passed (type_known typing.table written) _ h in
       let a = handed_on (place_type typing locals source) _ tt known.1 in
@@ -515,7 +515,7 @@ module _ (setting : Setting) (classes : KnowsClasses setting.program) (run : Run
             second_refers = refl;
             as_array = refl;
             no_element = λ q. cc;
-            below = λ store n q. subst (λ w. fits program store (Name n) (kind.ClassArray w) ≡ true) same q;
+            below = λ store n q. subst (λ w. is_of_kind program store (Name n) (kind.ClassArray w) ≡ true) same q;
           }
 
       by : (c a b : Kind) → written_kind typing.table at written ≡ Ok c → place_type typing locals source ≡ Ok a
@@ -530,7 +530,7 @@ module _ (setting : Setting) (classes : KnowsClasses setting.program) (run : Run
           of_objects x a b ha hb both.0 both.1
 
   pub copy_keeps_all : (n at : ℕ) (written : VarType) (source target : Lvalue) (st : State)
-      → copy_rules typing locals at written source target ≡ passed → Sound setting extra shape class st
+      → copy_rules typing locals at written source target ≡ verdict_passed → Sound setting extra shape class st
       → Ends (Kept st) (statement setting n run (Copy at written source target) st)
   copy_keeps_all n at written source target st h s =
       let p = copy_parts at written source target h in
@@ -539,7 +539,7 @@ module _ (setting : Setting) (classes : KnowsClasses setting.program) (run : Run
       ends_given (Kept st) (index_nodes target) (cell_of program st target) _ (λ b f.
       let ha = cell_is st source p.first a s p.source_is e in
       let hb = cell_is st target p.second b s p.target_is f in
-      let end : Unit {0} → Run State = λ x. give (counted suc
+      let end : Unit {0} → Run State = λ x. give (count_changed suc
       (Rattle.roopl_semantics.specs.Value.written st b (read st a)) (number_of (read st a))) in
       let changed = own_element target in
       let reads = index_elements source ++ index_elements target in
@@ -551,12 +551,12 @@ module _ (setting : Setting) (classes : KnowsClasses setting.program) (run : Run
       ends_check (Kept st) NOT_NIL (not (is_nil (read st b))) end (λ r.
       let fit = read_fits setting extra shape class st a p.first t ha in
       let nm = reference program st.store (read st a) p.first fit p.first_refers q in
-      subst (λ v. Kept st (counted suc (Rattle.roopl_semantics.specs.Value.written st b v) (number_of v))) (sym nm.is)
+      subst (λ v. Kept st (count_changed suc (Rattle.roopl_semantics.specs.Value.written st b v) (number_of v))) (sym nm.is)
       (copy_keeps setting extra shape class st a b p.first p.second nm.name s ha hb nm.is (nil_is (read st b) r)
-      (p.below st.store nm.name (subst (λ v. fits program st.store v p.first ≡ true) nm.is fit))))))))
+      (p.below st.store nm.name (subst (λ v. is_of_kind program st.store v p.first ≡ true) nm.is fit))))))))
 
   pub uncopy_keeps_all : (n at : ℕ) (written : VarType) (source target : Lvalue) (st : State)
-      → copy_rules typing locals at written source target ≡ passed → Sound setting extra shape class st
+      → copy_rules typing locals at written source target ≡ verdict_passed → Sound setting extra shape class st
       → Ends (Kept st) (statement setting n run (Uncopy at written source target) st)
   uncopy_keeps_all n at written source target st h s =
       let p = copy_parts at written source target h in
@@ -565,7 +565,7 @@ module _ (setting : Setting) (classes : KnowsClasses setting.program) (run : Run
       ends_given (Kept st) (index_nodes target) (cell_of program st target) _ (λ b f.
       let ha = cell_is st source p.first a s p.source_is e in
       let hb = cell_is st target p.second b s p.target_is f in
-      let end : Unit {0} → Run State = λ x. give (counted one_less (Rattle.roopl_semantics.specs.Value.written st b Nil)
+      let end : Unit {0} → Run State = λ x. give (count_changed one_less (Rattle.roopl_semantics.specs.Value.written st b Nil)
       (number_of (read st a))) in
       let changed = own_element target in
       let reads = index_elements source ++ index_elements target in
@@ -579,7 +579,7 @@ module _ (setting : Setting) (classes : KnowsClasses setting.program) (run : Run
       let nm = reference program st.store (read st a) p.first fit p.first_refers q in
       let same = same_value_is (read st a) (read st b) (first_false (same_value (read st a) (read st b)) (same_cell a b)
       r) in
-      subst (λ v. Kept st (counted one_less (Rattle.roopl_semantics.specs.Value.written st b Nil) (number_of v)))
+      subst (λ v. Kept st (count_changed one_less (Rattle.roopl_semantics.specs.Value.written st b Nil) (number_of v)))
       (sym nm.is)
       (uncopy_keeps setting extra shape class st a b p.first p.second nm.name s ha hb p.second_refers nm.is
       (sym same ∙ nm.is)))))))

@@ -11,7 +11,7 @@ use Rattle.roopl_semantics.specs.Store.{Value, Word, Nil, Name, Head, Store, Sta
 use Rattle.roopl_semantics.specs.Value.{Cell, Slot, Part, read, written}
 use Rattle.roopl_semantics.specs.Execution.{Setting, same_cell, moved_out, moved_back, TOUCHED}
 use Rattle.roopl_semantics.specs.Laws.{one_if_name, holders_among}
-use Rattle.meaning_sound.specs.Sound.{head_named, count_named, named_fits, fits, AllFit, held, Stays, cell_kind}
+use Rattle.meaning_sound.specs.Sound.{head_named, count_named, named_fits, is_of_kind, AllFit, held, Stays, cell_kind}
 use Rattle.meaning_sound.specs.Sound.{Typed}
 use Rattle.meaning_sound.proofs.Lists.{all_kept}
 use Rattle.meaning_sound.proofs.Cells.{heads_written, counts_written, read_fits, typed_written, held_written}
@@ -70,8 +70,8 @@ own_cells_kept program shape store other self (k ∷ ks) (Part n i ∷ cs) h own
   own_cells_kept program shape store other self ks cs h own.1 all.1,
 )
 
-pub cleared_fits : (program : Source) (store : Store) (v : Value) (k : Kind) → fits program store v k ≡ true
-    → fits program store (cleared v) k ≡ true
+pub cleared_fits : (program : Source) (store : Store) (v : Value) (k : Kind) → is_of_kind program store v k ≡ true
+    → is_of_kind program store (cleared v) k ≡ true
 cleared_fits program store (Word w) k h = by (is_int k) _ h
   where
     by : (b c : Bool) → (b && c) ≡ true → (b && true) ≡ true
@@ -136,7 +136,7 @@ module _ (setting : Setting) (extra : ℕ → ℕ) (shape : Locals) (class : ℕ
   }
 
   moved_write : (st : State) (cell : Cell) (k : Kind) (v : Value) → Typed setting extra shape class st
-      → cell_kind program shape st.store cell ≡ Some k → fits program st.store v k ≡ true → Moved st (written st cell v)
+      → cell_kind program shape st.store cell ≡ Some k → is_of_kind program st.store v k ≡ true → Moved st (written st cell v)
   moved_write st cell k v t h f = record {
     typed = typed_written setting extra shape class st cell k v t h f;
     heads = heads_written setting extra shape class st cell v;

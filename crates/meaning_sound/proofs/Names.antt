@@ -21,7 +21,7 @@ use Rattle.roopl_semantics.specs.Value.{Cell, Slot, Part, slot_of, own_class, sl
 use Rattle.roopl_semantics.specs.class_rules.Members.{field_of}
 use Rattle.roopl_semantics.specs.Execution.{Setting}
 use Rattle.roopl_semantics.specs.class_rules.Inheritance.{is_or_inherits, kind_of_var}
-use Rattle.meaning_sound.specs.Sound.{named_fits, head_of, head_named, name_of, local_name, local_type, part_kind}
+use Rattle.meaning_sound.specs.Sound.{named_fits, head_of, head_named, binding_name, local_name, local_type, part_kind}
 use Rattle.meaning_sound.specs.Sound.{cell_kind, Typed}
 use Rattle.meaning_sound.specs.Kept.{MeansSame}
 use Rattle.meaning_sound.proofs.Stores.{live_object}
@@ -144,7 +144,7 @@ module _ (setting : Setting) (classes : KnowsClasses setting.program) (extra : �
 
   -- the cell that a name means, by its name's place among the variables or the fields
   pub data IsMeant (st : State) (name : List ℕ) : Cell → Type 0 where
-    variable : (i : ℕ) → position (bytes_eq name) (map name_of st.frame) ≡ Some i → IsMeant st name (Slot i)
+    variable : (i : ℕ) → position (bytes_eq name) (map binding_name st.frame) ≡ Some i → IsMeant st name (Slot i)
     field : (i : ℕ) → position (bytes_eq name) (map field_name (class_fields program (own_class st))) ≡ Some i
         → IsMeant st name (Part st.self i)
 

@@ -5,7 +5,7 @@ use Rattle.std.proofs.lemmas.List.{get_or_append_left, get_or-append-add}
 use Rattle.std.specs.Prelude.{All}
 use Rattle.std.specs.List.{flat_map}
 use Rattle.roopl_semantics.specs.rpp_tree.Tree.{Expression, Number, Null, Variable, Element, Binary, Lvalue, Whole, Item, Creation}
-use Rattle.roopl_semantics.specs.rpp_tree.Tree.{Object, Ints, Objects, Statements, Source, Part, Operand, Target, Typed, Creates}
+use Rattle.roopl_semantics.specs.rpp_tree.Tree.{Object, Ints, Objects, Statements, Source, TreePart, Operand, Target, Typed, Creates}
 use Rattle.roopl_semantics.specs.rpp_tree.Tree.{Invokes}
 use Rattle.roopl_semantics.specs.rpp_tree.declared.limits.TheConstants.{MOST_NUMBER}
 use Rattle.roopl_semantics.specs.rpp_tree.Numbers.{expression_numbers, lvalue_numbers, receiver_numbers, creation_numbers}
@@ -58,7 +58,7 @@ receiver_words : (r : Option Lvalue) → Small (receiver_numbers r) → Receiver
 receiver_words None h = tt
 receiver_words (Some place) h = place_words place h
 
-part_words : (p : Part) → Small (part_numbers p) → PartHasWords (λ receiver args. ReceiverHasWords receiver) p
+part_words : (p : TreePart) → Small (part_numbers p) → PartHasWords (λ receiver args. ReceiverHasWords receiver) p
 part_words (Operand value) h = has_words value h
 part_words (Target place) h = place_words place h
 part_words (Typed kind place) h = place_words place h

@@ -16,7 +16,7 @@ use Rattle.roopl_semantics.specs.Value.{Cell, Slot, Part, read, written}
 use Rattle.roopl_semantics.specs.Execution.{Setting, order_of_cells, new_object, allocated, HEAP_FULL}
 use Rattle.roopl_semantics.specs.Laws.{one_if_name, holders_among, holders}
 use Rattle.meaning_sound.specs.Sound.{head_of, head_named, count_of, count_named, is_live, head_fits, named_fits}
-use Rattle.meaning_sound.specs.Sound.{fits, cell_kinds, AllFit, value_of, local_type, held, Descending, Sound, Keeps}
+use Rattle.meaning_sound.specs.Sound.{is_of_kind, cell_kinds, AllFit, bound_value, local_type, held, Descending, Sound, Keeps}
 use Rattle.meaning_sound.specs.Sound.{part_kind, cell_kind, Typed}
 use Rattle.meaning_sound.proofs.Lists.{all_kept}
 use Rattle.meaning_sound.proofs.Stores.{same_number, other_number, here, there, none_above, below_bound}
@@ -38,7 +38,7 @@ one_is m n h = by (nat_eq n m) refl h
     by true e q = eqb-true n m e
     by false e q = absurd (let z : 0 < 0 = q in omega arith)
 
-pub fit_live : (program : Source) (store : Store) (v : Value) (k : Kind) (m : ℕ) → fits program store v k ≡ true
+pub fit_live : (program : Source) (store : Store) (v : Value) (k : Kind) (m : ℕ) → is_of_kind program store v k ≡ true
     → 0 < one_if_name m v → is_live store m ≡ true
 fit_live program store (Word w) k m f h = absurd (let z : 0 < 0 = h in omega arith)
 fit_live program store Nil k m f h = absurd (let z : 0 < 0 = h in omega arith)
@@ -85,8 +85,8 @@ module _ (setting : Setting) (extra : ℕ → ℕ) (shape : Locals) (class : ℕ
       let cells = holders_none (2 + count_taken st.log) st.store m t.fresh
       (λ n o q. not_pos (holders_among m o.cells) (λ p. clash (is_live st.store m)
       (all_live program st.store (cell_kinds program o.head) o.cells m (t.objects n o q) p) dead)) in
-      let vars = not_pos (holders_among m (map value_of st.frame))
-      (λ p. clash (is_live st.store m) (all_live program st.store (map local_type shape) (map value_of st.frame) m
+      let vars = not_pos (holders_among m (map bound_value st.frame))
+      (λ p. clash (is_live st.store m) (all_live program st.store (map local_type shape) (map bound_value st.frame) m
       t.variables p) dead) in
       omega arith
 
@@ -129,7 +129,7 @@ module _ (setting : Setting) (extra : ℕ → ℕ) (shape : Locals) (class : ℕ
         a in
         record {
           names = t.names;
-          variables = kept (map local_type shape) (map value_of st.frame) t.variables;
+          variables = kept (map local_type shape) (map bound_value st.frame) t.variables;
           objects = λ m o q. object_of m o q (nat_eq new_name m) refl kept;
           lives = λ m x. ap is_some (older_head m t (t.lives m x)) ∙ t.lives m x;
           self_is = ap (named_fits program (kind.Class class)) (older_head st.self t (t.lives st.self t.self_held))
@@ -210,7 +210,7 @@ module _ (setting : Setting) (extra : ℕ → ℕ) (shape : Locals) (class : ℕ
             let tb = bigger_typed t fit some in
             let hb = cell_bigger cell k t h in
             let end = written bigger cell (Name new_name) in
-            let fits_name : fits program grown (Name new_name) k ≡ true =
+            let fits_name : is_of_kind program grown (Name new_name) k ≡ true =
             ap (λ o. named_fits program k (option_map head_of o))
             (here new_name new_name (new_object head cells) st.store (same_number new_name)) ∙ fit_head in
             let was = read_bigger cell k t h ∙ nil_is (read st cell) empty in

@@ -4,7 +4,7 @@ use Rattle.std.proofs.Common.{◌++◌, map, length, Option, Some, None}
 use Rattle.std.proofs.lemmas.Bool.{eqb-true}
 use Rattle.std.specs.Prelude.{nat_eq, is_none, is_some, if◌then◌else◌}
 use Rattle.std.specs.Option.{option_map}
-use Rattle.roopl_semantics.specs.buddy_book.Book.{Book, take, give}
+use Rattle.roopl_semantics.specs.buddy_book.Book.{Book, take, give_back}
 use Rattle.roopl_semantics.specs.buddy_book.Place.{Taken, Given, Log, Placing, block_of, without_name, with_block, after_request, place}
 use Rattle.roopl_semantics.specs.buddy_book.Shown.{Shown, TakenBlocks, order_in, with_taken, without_taken}
 use Rattle.roopl_semantics.proofs.buddy_book_laws.Table.{order_in-with}
@@ -186,7 +186,7 @@ module _ (setting : Setting) where
       let own = p.orders name head named no_main in
       let back = given_back (shown p.at p.taken) k block p.kept own in
       record {
-        at = record { book = give p.at.book k block; blocks = without_name p.at.blocks name };
+        at = record { book = give_back p.at.book k block; blocks = without_name p.at.blocks name };
         placed = ap (after_request (Given name k)) p.placed;
         names = less_store store name ∙ ap (less name) p.names
             ∙ less_before name main_name (map entry_name p.at.blocks) no_main

@@ -13,10 +13,10 @@ use Rattle.roopl_semantics.specs.buddy_book.Place.{Given, count_taken}
 use Rattle.roopl_semantics.specs.Store.{Value, Word, Nil, Name, Head, Object, Store, State, main_name, is_nil, is_zero}
 use Rattle.roopl_semantics.specs.Store.{object_named, object_at, changed_at, without}
 use Rattle.roopl_semantics.specs.Value.{Cell, Slot, Part, read, written}
-use Rattle.roopl_semantics.specs.Execution.{Setting, order_of_cells, freed, counted, all_zero, one_less}
+use Rattle.roopl_semantics.specs.Execution.{Setting, order_of_cells, freed, count_changed, all_zero, one_less}
 use Rattle.roopl_semantics.specs.Laws.{one_if_name, holders_among}
-use Rattle.meaning_sound.specs.Sound.{head_of, head_named, count_of, count_named, is_live, named_fits, fits}
-use Rattle.meaning_sound.specs.Sound.{cell_kinds, AllFit, value_of, local_type, held, Descending, Sound, Stays, Keeps}
+use Rattle.meaning_sound.specs.Sound.{head_of, head_named, count_of, count_named, is_live, named_fits, is_of_kind}
+use Rattle.meaning_sound.specs.Sound.{cell_kinds, AllFit, bound_value, local_type, held, Descending, Sound, Stays, Keeps}
 use Rattle.meaning_sound.specs.Sound.{cell_kind, Typed}
 use Rattle.meaning_sound.proofs.Lists.{all_kept, all_length, holders_get}
 use Rattle.meaning_sound.proofs.Stores.{same_number, other_number, differs, changed_here, changed_other}
@@ -66,7 +66,7 @@ pub record IsName (v : Value) : Type 0 where
   pub name : ℕ
   pub is : v ≡ Name name
 
-pub reference : (program : Source) (store : Store) (v : Value) (k : Kind) → fits program store v k ≡ true
+pub reference : (program : Source) (store : Store) (v : Value) (k : Kind) → is_of_kind program store v k ≡ true
     → is_int k ≡ false → is_nil v ≡ false → IsName v
 reference program store (Word w) k f no_int no_nil = absurd (by (is_int k) _ no_int f)
   where
@@ -107,9 +107,9 @@ module _ (setting : Setting) (extra : ℕ → ℕ) (shape : Locals) (class : ℕ
         let more : (m : ℕ) → 0 < extra m → name ≢ m = λ m p e. let z = ap extra e in omega arith in
         record {
           names = t.names;
-          variables = all_kept program st.store (without st.store name) (map local_type shape) (map value_of st.frame)
-              (λ m p l. kept_head m (λ e. let z : holders_among name (map value_of st.frame)
-              ≡ holders_among m (map value_of st.frame) = ap (λ k. holders_among k (map value_of st.frame)) e in
+          variables = all_kept program st.store (without st.store name) (map local_type shape) (map bound_value st.frame)
+              (λ m p l. kept_head m (λ e. let z : holders_among name (map bound_value st.frame)
+              ≡ holders_among m (map bound_value st.frame) = ap (λ k. holders_among k (map bound_value st.frame)) e in
               omega arith)) t.variables;
           objects = λ m o q. objects_of m o q kept_head (nat_eq name m) refl;
           lives = λ m p. ap is_some (kept_head m (more m p)) ∙ t.lives m p;
@@ -174,14 +174,14 @@ module _ (setting : Setting) (extra : ℕ → ℕ) (shape : Locals) (class : ℕ
   freed_keeps st cell k name s h no_int reads one zeros =
       let t = typed_of setting extra shape class st s in
       let object = object_at st.store name in
-      let fit : fits program st.store (Name name) k ≡ true =
-      subst (λ v. fits program st.store v k ≡ true) reads (read_fits setting extra shape class st cell k t h) in
+      let fit : is_of_kind program st.store (Name name) k ≡ true =
+      subst (λ v. is_of_kind program st.store v k ≡ true) reads (read_fits setting extra shape class st cell k t h) in
       let live = fit_live program st.store (Name name) k name fit (let o = one_name name in omega arith) in
       let named = live_object st.store name live in
       let counted_one : object.count ≡ 1 = eqb-true object.count 1 (not_less _ one) in
       let law = s.counts name object.count (ap (option_map count_of) named) in
       let st1 = written st cell Nil in
-      let fits_nil : fits program st.store Nil k ≡ true = ap not no_int in
+      let fits_nil : is_of_kind program st.store Nil k ≡ true = ap not no_int in
       let t1 = typed_written setting extra shape class st cell k Nil t h fits_nil in
       let moved : (m : ℕ) → held m st1 + one_if_name m (Name name) ≡ held m st = λ m. let a =
       held_written setting extra shape class st cell k Nil m t h in let b = ap (one_if_name m) reads in
@@ -245,11 +245,11 @@ module _ (setting : Setting) (extra : ℕ → ℕ) (shape : Locals) (class : ℕ
   recount f o = record o { count = f o.count }
 
   pub counted_heads : (st : State) (n : ℕ) (f : ℕ → ℕ) (m : ℕ)
-      → head_named (counted f st n).store m ≡ head_named st.store m
+      → head_named (count_changed f st n).store m ≡ head_named st.store m
   counted_heads st n f m = changed_told st.store n (recount f) head_of (λ o. refl) m
 
   pub counted_typed : (st : State) (n : ℕ) (f : ℕ → ℕ) → Typed setting extra shape class st
-      → Typed setting extra shape class (counted f st n)
+      → Typed setting extra shape class (count_changed f st n)
   counted_typed st n f t =
       let store' = changed_at st.store n (recount f) in
       let heads = counted_heads st n f in
@@ -258,7 +258,7 @@ module _ (setting : Setting) (extra : ℕ → ℕ) (shape : Locals) (class : ℕ
       let P : Object → Type 0 = λ o. AllFit program store' (cell_kinds program o.head) o.cells in
       record {
         names = t.names;
-        variables = kept (map local_type shape) (map value_of st.frame) t.variables;
+        variables = kept (map local_type shape) (map bound_value st.frame) t.variables;
         objects = changed_objects P st.store n (recount f) (λ m o q. kept (cell_kinds program o.head) o.cells
             (t.objects m o q)) (λ o q. kept (cell_kinds program o.head) o.cells (t.objects n o q));
         lives = λ m x. ap is_some (heads m) ∙ t.lives m x;
@@ -270,10 +270,10 @@ module _ (setting : Setting) (extra : ℕ → ℕ) (shape : Locals) (class : ℕ
       }
 
   pub counted_held : (st : State) (n : ℕ) (f : ℕ → ℕ) (o : Object) → object_named st.store n ≡ Some o → (m : ℕ)
-      → held m (counted f st n) ≡ held m st
+      → held m (count_changed f st n) ≡ held m st
   counted_held st n f o named m = let a = holders_changed m st.store n (recount f) o named in omega arith
 
-  pub stays_counted : (st : State) (n : ℕ) (f : ℕ → ℕ) → Stays setting extra st (counted f st n)
+  pub stays_counted : (st : State) (n : ℕ) (f : ℕ → ℕ) → Stays setting extra st (count_changed f st n)
   stays_counted st n f = record {
     self_same = refl;
     depth_same = refl;
@@ -286,25 +286,25 @@ module _ (setting : Setting) (extra : ℕ → ℕ) (shape : Locals) (class : ℕ
       → Stays setting extra st st1 → Typed setting extra shape class st1
       → ((m : ℕ) → count_named st1.store m ≡ count_named st.store m) → object_named st1.store n ≡ Some o
       → ((m : ℕ) → n ≢ m → held m st1 ≡ held m st) → (f o.count ≡ held n st1 + extra n) → n ≢ main_name
-      → Keeps setting extra shape class st (counted f st1 n)
+      → Keeps setting extra shape class st (count_changed f st1 n)
   recounted st st1 n o f s stays t same named others own no_main = record {
-    sound = sound_of setting extra shape class (counted f st1 n) (counted_typed st1 n f t) (record {
+    sound = sound_of setting extra shape class (count_changed f st1 n) (counted_typed st1 n f t) (record {
       counts = λ m c q. count_is m c q (nat_eq n m) refl;
       main_unheld = counted_held st1 n f o named main_name ∙ others main_name no_main ∙ s.main_unheld;
     });
-    stays = stays_through setting extra st st1 (counted f st1 n) stays (stays_counted st1 n f);
+    stays = stays_through setting extra st st1 (count_changed f st1 n) stays (stays_counted st1 n f);
   }
     where
-      count_is : (m c : ℕ) → count_named (counted f st1 n).store m ≡ Some c → (b : Bool) → nat_eq n m ≡ b
-          → c ≡ held m (counted f st1 n) + extra m
+      count_is : (m c : ℕ) → count_named (count_changed f st1 n).store m ≡ Some c → (b : Bool) → nat_eq n m ≡ b
+          → c ≡ held m (count_changed f st1 n) + extra m
       count_is m c q true e =
           let is = eqb-true n m e in
-          let found : count_named (counted f st1 n).store n ≡ Some (f o.count) =
+          let found : count_named (count_changed f st1 n).store n ≡ Some (f o.count) =
           ap (option_map count_of) (changed_here st1.store n (recount f) ∙ ap (option_map (recount f)) named) in
-          let x : Some (f o.count) ≡ Some c = sym found ∙ ap (count_named (counted f st1 n).store) is ∙ q in
+          let x : Some (f o.count) ≡ Some c = sym found ∙ ap (count_named (count_changed f st1 n).store) is ∙ q in
           let y : f o.count ≡ c = cc in
           let z = counted_held st1 n f o named n in
-          subst (λ k. c ≡ held k (counted f st1 n) + extra k) is (sym y ∙ own ∙ ap (λ w. w + extra n) (sym z))
+          subst (λ k. c ≡ held k (count_changed f st1 n) + extra k) is (sym y ∙ own ∙ ap (λ w. w + extra n) (sym z))
       count_is m c q false e =
           let apart = differs n m e in
           let was : count_named st.store m ≡ Some c = sym (same m)
@@ -325,7 +325,7 @@ module _ (setting : Setting) (extra : ℕ → ℕ) (shape : Locals) (class : ℕ
       → cell_kind program shape st.store cell ≡ Some k → read st cell ≡ Name n → Named st n
   named_of st cell k n s h reads =
       let t = typed_of setting extra shape class st s in
-      let fit : fits program st.store (Name n) k ≡ true = subst (λ v. fits program st.store v k ≡ true) reads
+      let fit : is_of_kind program st.store (Name n) k ≡ true = subst (λ v. is_of_kind program st.store v k ≡ true) reads
       (read_fits setting extra shape class st cell k t h) in
       let live = fit_live program st.store (Name n) k n fit (let o = one_name n in omega arith) in
       let named = live_object st.store n live in
@@ -358,8 +358,8 @@ module _ (setting : Setting) (extra : ℕ → ℕ) (shape : Locals) (class : ℕ
 
   pub copy_keeps : (st : State) (a b : Cell) (ka kb : Kind) (n : ℕ) → Sound setting extra shape class st
       → cell_kind program shape st.store a ≡ Some ka → cell_kind program shape st.store b ≡ Some kb
-      → read st a ≡ Name n → read st b ≡ Nil → fits program st.store (Name n) kb ≡ true
-      → Keeps setting extra shape class st (counted suc (written st b (Name n)) n)
+      → read st a ≡ Name n → read st b ≡ Nil → is_of_kind program st.store (Name n) kb ≡ true
+      → Keeps setting extra shape class st (count_changed suc (written st b (Name n)) n)
   copy_keeps st a b ka kb n s ha hb reads empty fit =
       let t = typed_of setting extra shape class st s in
       let o = named_of st a ka n s ha reads in
@@ -378,7 +378,7 @@ module _ (setting : Setting) (extra : ℕ → ℕ) (shape : Locals) (class : ℕ
   pub uncopy_keeps : (st : State) (a b : Cell) (ka kb : Kind) (n : ℕ) → Sound setting extra shape class st
       → cell_kind program shape st.store a ≡ Some ka → cell_kind program shape st.store b ≡ Some kb → is_int kb ≡ false
       → read st a ≡ Name n → read st b ≡ Name n
-      → Keeps setting extra shape class st (counted one_less (written st b Nil) n)
+      → Keeps setting extra shape class st (count_changed one_less (written st b Nil) n)
   uncopy_keeps st a b ka kb n s ha hb no_int reads same =
       let t = typed_of setting extra shape class st s in
       let o = named_of st a ka n s ha reads in

@@ -17,7 +17,7 @@ use Rattle.roopl_semantics.specs.class_rules.Classes.{procedure_at, inherits}
 use Rattle.roopl_semantics.specs.class_rules.Table.{table_of}
 use Rattle.roopl_semantics.specs.class_rules.Scope.{Locals}
 use Rattle.roopl_semantics.specs.class_rules.Mains.{has_none, mains}
-use Rattle.roopl_semantics.specs.class_rules.Statements.{passed, each_passes_after, check_statements}
+use Rattle.roopl_semantics.specs.class_rules.Statements.{verdict_passed, each_passes_after, check_statements}
 use Rattle.roopl_semantics.specs.class_rules.Program.{IsAccepted, parameter_new, with_parameters, setting_in}
 use Rattle.roopl_semantics.specs.buddy_book.Book.{start}
 use Rattle.roopl_semantics.proofs.buddy_book_laws.Beginning.{start-kept}
@@ -33,7 +33,7 @@ use Rattle.roopl_semantics.specs.Laws.{holders_among, CountsReferences}
 use Rattle.roopl_semantics.proofs.MoreFuel.{within_done}
 use Rattle.roopl_semantics.proofs.MainPlace.{first_of_mains, table_rules, class_inside}
 use Rattle.roopl_semantics.specs.class_rules.Inheritance.{kind_of_var}
-use Rattle.meaning_sound.specs.Sound.{head_of, count_of, cell_kinds, AllFit, value_of, name_of, held, Sound, Keeps}
+use Rattle.meaning_sound.specs.Sound.{head_of, count_of, cell_kinds, AllFit, bound_value, binding_name, held, Sound, Keeps}
 use Rattle.meaning_sound.specs.Sound.{main_alone}
 use Rattle.meaning_sound.specs.Plain.{IsPlain, ProgramIsPlain}
 use Rattle.meaning_sound.proofs.Lists.{all_inside, all_set, holders_set}
@@ -208,7 +208,7 @@ main_there program accepted =
 -- the text of `main` is checked, with no variables
 pub record MainText (program : Source) : Type 0 where
   pub checked : check_statements (setting_in program (table_of program) (main_of program).class) [] (main_body program)
-      ≡ passed
+      ≡ verdict_passed
   pub plain : IsPlain (main_body program)
 
 pub main_text : (program : Source) → IsAccepted program → ProgramIsPlain program → MainText program
@@ -245,7 +245,7 @@ end_sound program limits input fuel end cost accepted plain inside valid e =
     (starting_sound program limits input inside valid))
     over.is
 
-pub no_frame : (frame : List Binding) → map name_of frame ≡ [] → frame ≡ []
+pub no_frame : (frame : List Binding) → map binding_name frame ≡ [] → frame ≡ []
 no_frame [] h = refl
 no_frame (b ∷ frame) h = absurd (cc)
 
@@ -257,8 +257,8 @@ counts_are_references program limits input fuel end cost accepted plain inside v
     let kept = end_sound program limits input fuel end cost accepted plain inside valid e in
     let s = kept.sound in
     let none = no_frame end.frame s.names in
-    let framed : (m : ℕ) → holders_among m (map value_of end.frame) ≡ 0 =
-    λ m. ap (λ f. holders_among m (map value_of f)) none in
+    let framed : (m : ℕ) → holders_among m (map bound_value end.frame) ≡ 0 =
+    λ m. ap (λ f. holders_among m (map bound_value f)) none in
     record {
       main = λ o q. let a = s.counts main_name o.count (ap (option_map count_of) q) in let b = s.main_unheld in
           omega arith;

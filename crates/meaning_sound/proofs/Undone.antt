@@ -12,7 +12,7 @@ use Rattle.roopl_semantics.specs.class_rules.Overrides.{is_type_int, same_type}
 use Rattle.roopl_semantics.specs.class_rules.Refusal.{type_differs, redeclared, local_in_own_expression}
 use Rattle.roopl_semantics.specs.class_rules.Scope.{Typing, Locals, local_kind, kind_of}
 use Rattle.roopl_semantics.specs.class_rules.Expressions.{is_int, type_of, occurs, first_token}
-use Rattle.roopl_semantics.specs.class_rules.Statements.{passed, required, in_turn, test_rules, type_known, is_nil_word, local_rules}
+use Rattle.roopl_semantics.specs.class_rules.Statements.{verdict_passed, required, in_turn, test_rules, type_known, is_nil_word, local_rules}
 use Rattle.roopl_semantics.specs.class_rules.Statements.{construct_rules, with_local, with_object, check_statement, check_statements}
 use Rattle.roopl_semantics.specs.inverse_rules.Inverse.{inverse_statement_as, inverse_as, inverse}
 use Rattle.roopl_semantics.proofs.inverse_rules_laws.InverseWalks.{IsTurned, block_turned as walk_block_turned}
@@ -36,8 +36,8 @@ and_turned false false = refl
 
 -- ---- blocks one after the other
 
-pub check_joined : (setting : Typing) (locals : Locals) (a b : Statements) → check_statements setting locals a ≡ passed
-    → check_statements setting locals b ≡ passed → check_statements setting locals (joined a b) ≡ passed
+pub check_joined : (setting : Typing) (locals : Locals) (a b : Statements) → check_statements setting locals a ≡ verdict_passed
+    → check_statements setting locals b ≡ verdict_passed → check_statements setting locals (joined a b) ≡ verdict_passed
 check_joined setting locals End b h k = k
 check_joined setting locals (Then first rest) b h k =
     let both = both_passed (check_statement setting locals first) (check_statements setting locals rest) h in
@@ -51,24 +51,24 @@ plain_joined (Then first rest) b h k = (h.0, plain_joined rest b h.1 k)
 -- ---- the rules of tests and locals, turned
 
 test_turned : (setting : Typing) (locals : Locals) (first last : Expression)
-    → test_rules setting locals first last ≡ passed → test_rules setting locals last first ≡ passed
+    → test_rules setting locals first last ≡ verdict_passed → test_rules setting locals last first ≡ verdict_passed
 test_turned setting locals first last h =
     let f = handed_on (type_of setting locals first) _ tt h in
     let l = handed_on (type_of setting locals last) _ tt f.goes in
     let both = both_passed (required (is_int f.value) (type_differs (first_token first)))
     (required (is_int l.value) (type_differs (first_token last))) l.goes in
-    hands_on (type_of setting locals last) _ l.value passed l.is
-    (hands_on (type_of setting locals first) _ f.value passed f.is
+    hands_on (type_of setting locals last) _ l.value verdict_passed l.is
+    (hands_on (type_of setting locals first) _ f.value verdict_passed f.is
     (in_turn_passes (required (is_int l.value) (type_differs (first_token last)))
     (required (is_int f.value) (type_differs (first_token first))) both.1 both.0))
 
 record LocalTurned (setting : Typing) (locals : Locals) (at : ℕ) (var : Var) (value : Expression) (end_var : Var)
     (end_value : Expression) : Type 0 where
-  pub rules : local_rules setting locals at end_var end_value var value ≡ passed
+  pub rules : local_rules setting locals at end_var end_value var value ≡ verdict_passed
   pub same : with_local setting locals var ≡ with_local setting locals end_var
 
 local_turned : (setting : Typing) (locals : Locals) (at : ℕ) (var : Var) (value : Expression) (end_var : Var)
-    (end_value : Expression) → local_rules setting locals at var value end_var end_value ≡ passed
+    (end_value : Expression) → local_rules setting locals at var value end_var end_value ≡ verdict_passed
     → LocalTurned setting locals at var value end_var end_value
 local_turned setting locals at var value end_var end_value h =
     let a = both_passed (type_known setting.table var.kind) _ h in
@@ -94,8 +94,8 @@ local_turned setting locals at var value end_var end_value h =
           (local_in_own_expression at)) _
           (required_passes _ _ (ap (λ n. not (occurs n end_value || occurs n value)) (sym name)
           ∙ ap not (or_turned (occurs var.name.text end_value) (occurs var.name.text value)) ∙ held _ _ d.0))
-          (hands_on (type_of setting locals end_value) _ e.value passed e.is
-          (hands_on (type_of setting locals value) _ v.value passed v.is
+          (hands_on (type_of setting locals end_value) _ e.value verdict_passed e.is
+          (hands_on (type_of setting locals value) _ v.value verdict_passed v.is
           (required_passes _ (type_differs at) (turn v.value e.value (is_type_int var.kind) (is_type_int end_var.kind)
           types.ints (held _ _ e.goes))))))));
       same = ap (λ n. record { name = n; kind = kind_of setting.table var.kind } ∷ locals) name
@@ -113,8 +113,8 @@ local_turned setting locals at var value end_var end_value h =
 -- ---- statements and blocks
 
 mutual
-  statement_undone : (setting : Typing) (locals : Locals) (s : Statement) → check_statement setting locals s ≡ passed
-      → check_statement setting locals (inverse_statement_as true s) ≡ passed
+  statement_undone : (setting : Typing) (locals : Locals) (s : Statement) → check_statement setting locals s ≡ verdict_passed
+      → check_statement setting locals (inverse_statement_as true s) ≡ verdict_passed
   statement_undone setting locals (Update at op target value) h = h
   statement_undone setting locals (If at test taken other after) h =
       let a = both_passed (test_rules setting locals test after)
@@ -142,22 +142,22 @@ mutual
       (check_statements setting (with_local setting locals var) body) h in
       let t = local_turned setting locals at var value end_var end_value a.0 in
       in_turn_passes (local_rules setting locals at end_var end_value var value) _ t.rules
-      (subst (λ (ls : Locals). check_statements setting ls (inverse_as true body) ≡ passed) t.same
+      (subst (λ (ls : Locals). check_statements setting ls (inverse_as true body) ≡ verdict_passed) t.same
       (block_undone setting (with_local setting locals var) body a.1))
   statement_undone setting locals _ h = h
 
   block_undone : (setting : Typing) (locals : Locals) (body : Statements)
-      → check_statements setting locals body ≡ passed → check_statements setting locals (inverse_as true body) ≡ passed
+      → check_statements setting locals body ≡ verdict_passed → check_statements setting locals (inverse_as true body) ≡ verdict_passed
   block_undone setting locals End h = h
   block_undone setting locals (Then first rest) h =
       let a = both_passed (check_statement setting locals first) (check_statements setting locals rest) h in
       check_joined setting locals (inverse_as true rest) (Then (inverse_statement_as true first) End)
       (block_undone setting locals rest a.1)
-      (in_turn_passes (check_statement setting locals (inverse_statement_as true first)) passed
+      (in_turn_passes (check_statement setting locals (inverse_statement_as true first)) verdict_passed
       (statement_undone setting locals first a.0) refl)
 
 pub inverse_checks : (setting : Typing) (locals : Locals) (body : Statements)
-    → check_statements setting locals body ≡ passed → check_statements setting locals (inverse body) ≡ passed
+    → check_statements setting locals body ≡ verdict_passed → check_statements setting locals (inverse body) ≡ verdict_passed
 inverse_checks setting locals body h = block_undone setting locals body h
 
 plain_turned : IsTurned (λ (A B : Type 0). B → A) (words_and ReceiverIsPlain) true

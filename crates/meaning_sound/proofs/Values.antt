@@ -20,7 +20,7 @@ use Rattle.roopl_semantics.specs.class_rules.declared.kind.Kind.TheVariants as k
 use Rattle.roopl_semantics.specs.class_rules.Table.{table_of}
 use Rattle.roopl_semantics.specs.class_rules.Refusal.{type_differs, refused_operator}
 use Rattle.roopl_semantics.specs.class_rules.Scope.{Typing, Locals, kind_in}
-use Rattle.roopl_semantics.specs.class_rules.Expressions.{and_then, is_int, element_kind, element_of as element_type}
+use Rattle.roopl_semantics.specs.class_rules.Expressions.{then_checked, is_int, element_kind, element_kind_of as element_type}
 use Rattle.roopl_semantics.specs.class_rules.Expressions.{index_is_int}
 use Rattle.roopl_semantics.specs.class_rules.Expressions.{variable_type, type_of, place_type, is_comparison, is_refused}
 use Rattle.roopl_semantics.specs.class_rules.Expressions.{operands_fit}
@@ -32,7 +32,7 @@ use Rattle.roopl_semantics.specs.Store.{number_of, object_named, object_at}
 use Rattle.roopl_semantics.specs.Value.{Cell, Part, cell_named, variable_value, element_cell, element_of, read_cell}
 use Rattle.roopl_semantics.specs.Value.{combined, value, cell_of, INDEX}
 use Rattle.roopl_semantics.specs.Execution.{Setting}
-use Rattle.meaning_sound.specs.Sound.{head_of, head_named, head_fits, named_fits, fits, cell_kinds, part_kind}
+use Rattle.meaning_sound.specs.Sound.{head_of, head_named, head_fits, named_fits, is_of_kind, cell_kinds, part_kind}
 use Rattle.meaning_sound.specs.Sound.{cell_kind, Typed}
 use Rattle.meaning_sound.specs.Plain.{HasWords}
 use Rattle.meaning_sound.proofs.Lists.{all_length}
@@ -74,7 +74,7 @@ updated_word update.Add a b h k = mod-lt (a + b) (omega arith)
 updated_word update.Sub a b h k = mod-lt _ (omega arith)
 updated_word update.Xor a b h k = xor_lt 32 a b h k
 
-pub word_fits : (program : Source) (store : Store) (w : ℕ) → w < 2 ^ 32 → fits program store (Word w) kind.Int ≡ true
+pub word_fits : (program : Source) (store : Store) (w : ℕ) → w < 2 ^ 32 → is_of_kind program store (Word w) kind.Int ≡ true
 word_fits program store w h = lt-ltb w (2 ^ 32) h
 
 -- an int is a word
@@ -83,7 +83,7 @@ pub record IsInt (v : Value) : Type 0 where
   pub is : v ≡ Word word
   pub small : word < 2 ^ 32
 
-pub int_value : (program : Source) (store : Store) (v : Value) → fits program store v kind.Int ≡ true → IsInt v
+pub int_value : (program : Source) (store : Store) (v : Value) → is_of_kind program store v kind.Int ≡ true → IsInt v
 int_value program store (Word w) h = record { word = w; is = refl; small = ltb-true w (2 ^ 32) h }
 int_value program store Nil h = absurd (cc)
 int_value program store (Name n) h = absurd (none (head_named store n) h)
@@ -92,7 +92,7 @@ int_value program store (Name n) h = absurd (none (head_named store n) h)
     none None h = cc
     none (Some head) h = cc
 
-pub int_number : (program : Source) (store : Store) (v : Value) → fits program store v kind.Int ≡ true
+pub int_number : (program : Source) (store : Store) (v : Value) → is_of_kind program store v kind.Int ≡ true
     → number_of v < 2 ^ 32
 int_number program store v h = let i = int_value program store v h in let e = ap number_of i.is in let s = i.small in
     omega arith
@@ -100,7 +100,7 @@ int_number program store v h = let i = int_value program store v h in let e = ap
 -- ---- a value or place that is found has its type
 
 abbrev pub ValueFits : Source → Store → Kind → Result Value ℕ → Type 0
-ValueFits program store k (Ok v) = fits program store v k ≡ true
+ValueFits program store k (Ok v) = is_of_kind program store v k ≡ true
 ValueFits program store k (Err fault) = Unit {0}
 
 abbrev pub CellIs : Source → Locals → Store → Kind → Result Cell ℕ → Type 0
@@ -108,7 +108,7 @@ CellIs program shape store k (Ok cell) = cell_kind program shape store cell ≡ 
 CellIs program shape store k (Err fault) = Unit {0}
 
 pub value_found : (program : Source) (store : Store) (k : Kind) (r : Result Value ℕ) (v : Value)
-    → ValueFits program store k r → r ≡ Ok v → fits program store v k ≡ true
+    → ValueFits program store k r → r ≡ Ok v → is_of_kind program store v k ≡ true
 value_found program store k r v h e = subst (ValueFits program store k) e h
 
 pub cell_found : (program : Source) (shape : Locals) (store : Store) (k : Kind) (r : Result Cell ℕ) (cell : Cell)
@@ -153,7 +153,7 @@ module _ (setting : Setting) (classes : KnowsClasses setting.program) (extra : �
 
   -- an element of an array
   pub element_kind_is : (st : State) (array k : Kind) (v : Value) (index : ℕ) → Typed setting extra shape class st
-      → element_kind array ≡ Some k → fits program st.store v array ≡ true
+      → element_kind array ≡ Some k → is_of_kind program st.store v array ≡ true
       → CellIs program shape st.store k (element_cell st v index)
   element_kind_is st array k (Word w) index t e h = tt
   element_kind_is st array k Nil index t e h = tt
@@ -217,7 +217,7 @@ module _ (setting : Setting) (classes : KnowsClasses setting.program) (extra : �
       indexed x at (kind.ClassArray c) q = absurd (cc)
 
       by : {array : Kind} → element_kind array ≡ Some k → (a : Kind) → a ≡ array
-          → fits program st.store (variable_value program st name.text) array ≡ true → (r : Result Value ℕ)
+          → is_of_kind program st.store (variable_value program st name.text) array ≡ true → (r : Result Value ℕ)
           → CellIs program shape st.store k (element_of program st name.text r)
       by {array} e a same f (Ok i) = element_kind_is st array k (variable_value program st name.text) (number_of i) t e
           f
@@ -231,8 +231,8 @@ module _ (setting : Setting) (classes : KnowsClasses setting.program) (extra : �
   pub value_fits : (st : State) (e : Expression) (k : Kind) → Typed setting extra shape class st → HasWords e
       → type_of typing locals e ≡ Ok k → ValueFits program st.store k (value program st e)
   value_fits st (Number at word) k t w h = let s : kind.Int ≡ k = cc in
-      subst (λ z. fits program st.store (Word word) z ≡ true) s (word_fits program st.store word w)
-  value_fits st (Null at) k t w h = let s : kind.Nil ≡ k = cc in subst (λ z. fits program st.store Nil z ≡ true) s refl
+      subst (λ z. is_of_kind program st.store (Word word) z ≡ true) s (word_fits program st.store word w)
+  value_fits st (Null at) k t w h = let s : kind.Nil ≡ k = cc in subst (λ z. is_of_kind program st.store Nil z ≡ true) s refl
   value_fits st (Variable name) k t w h = read_fits setting extra shape class st (cell_named program st name.text) k t
       (variable_fits st name k t h)
   value_fits st (Element name index) k t w h = read_found st k
@@ -244,8 +244,8 @@ module _ (setting : Setting) (classes : KnowsClasses setting.program) (extra : �
       (value_fits st left l.value t w.0 l.is) (value_fits st right r.value t w.1 r.is)
     where
       words : (a b : Kind) (x y : Value) → (is_comparison operator ≡ true → ⊥)
-          → operands_fit typing.table operator a b ≡ true → fits program st.store x a ≡ true
-          → fits program st.store y b ≡ true → (number_of x < 2 ^ 32) × (number_of y < 2 ^ 32)
+          → operands_fit typing.table operator a b ≡ true → is_of_kind program st.store x a ≡ true
+          → is_of_kind program st.store y b ≡ true → (number_of x < 2 ^ 32) × (number_of y < 2 ^ 32)
       words a b x y never q f g = ints (is_comparison operator) refl q
         where
           ints : (c : Bool) → is_comparison operator ≡ c → (if c then
@@ -254,8 +254,8 @@ module _ (setting : Setting) (classes : KnowsClasses setting.program) (extra : �
           ints true e z = absurd (never e)
           ints false e z =
               let i = both_true (is_int a) (is_int b) z in (
-                int_number program st.store x (subst (λ c. fits program st.store x c ≡ true) (int_kind a i.0) f),
-                int_number program st.store y (subst (λ c. fits program st.store y c ≡ true) (int_kind b i.1) g),
+                int_number program st.store x (subst (λ c. is_of_kind program st.store x c ≡ true) (int_kind a i.0) f),
+                int_number program st.store y (subst (λ c. is_of_kind program st.store y c ≡ true) (int_kind b i.1) g),
               )
 
       both : (a b : Kind) (x y : Result Value ℕ) → operator_type typing.table at operator a b ≡ Ok k
@@ -267,13 +267,13 @@ module _ (setting : Setting) (classes : KnowsClasses setting.program) (extra : �
         where
           by : (refused fit : Bool) → operands_fit typing.table operator a b ≡ fit
               → (if refused then Err (refused_operator at) else (if fit then Ok kind.Int else Err (type_differs at)))
-              ≡ Ok k → fits program st.store (Word (operated operator (number_of x) (number_of y))) k ≡ true
+              ≡ Ok k → is_of_kind program st.store (Word (operated operator (number_of x) (number_of y))) k ≡ true
           by true fit e z = absurd (cc)
           by false false e z = absurd (cc)
           by false true e z =
               let s : kind.Int ≡ k = cc in
               let apart : is_comparison operator ≡ false → is_comparison operator ≡ true → ⊥ = λ u v. cc in
-              subst (λ c. fits program st.store (Word (operated operator (number_of x) (number_of y))) c ≡ true) s
+              subst (λ c. is_of_kind program st.store (Word (operated operator (number_of x) (number_of y))) c ≡ true) s
               (word_fits program st.store (operated operator (number_of x) (number_of y))
               (operated_word operator (number_of x) (number_of y) (λ u. words a b x y (apart u) e f g)))
 

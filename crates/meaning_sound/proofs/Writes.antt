@@ -8,7 +8,7 @@ use Rattle.roopl_semantics.specs.Store.{Value, Word, Nil, Name, State, main_name
 use Rattle.roopl_semantics.specs.Value.{Cell, Slot, Part, read, written}
 use Rattle.roopl_semantics.specs.Execution.{Setting}
 use Rattle.roopl_semantics.specs.Laws.{one_if_name, block_in}
-use Rattle.meaning_sound.specs.Sound.{count_named, fits, held, Sound, Stays, Keeps, cell_kind}
+use Rattle.meaning_sound.specs.Sound.{count_named, is_of_kind, held, Sound, Stays, Keeps, cell_kind}
 use Rattle.meaning_sound.proofs.Lists.{fits_kept}
 use Rattle.meaning_sound.proofs.Cells.{Counted, typed_of, sound_of, heads_written, counts_written, read_fits}
 use Rattle.meaning_sound.proofs.Cells.{typed_written, held_written, kind_stays}
@@ -57,8 +57,8 @@ module _ (setting : Setting) (extra : ℕ → ℕ) (shape : Locals) (class : ℕ
     blocks_same = λ n h. ap (λ l. block_in (place setting.limits.heap l) n) (written_log st cell v);
   }
 
-  pub fits_written : (st : State) (cell : Cell) (v w : Value) (k : Kind) → fits setting.program st.store w k ≡ true
-      → fits setting.program (written st cell v).store w k ≡ true
+  pub fits_written : (st : State) (cell : Cell) (v w : Value) (k : Kind) → is_of_kind setting.program st.store w k ≡ true
+      → is_of_kind setting.program (written st cell v).store w k ≡ true
   fits_written st cell v w k h = fits_kept setting.program st.store (written st cell v).store w k
       (λ m p l. heads_written setting extra shape class st cell v m) h
 
@@ -71,7 +71,7 @@ module _ (setting : Setting) (extra : ℕ → ℕ) (shape : Locals) (class : ℕ
   }
 
   pub write_keeps : (st : State) (cell : Cell) (k : Kind) (v : Value) → Sound setting extra shape class st
-      → cell_kind setting.program shape st.store cell ≡ Some k → fits setting.program st.store v k ≡ true
+      → cell_kind setting.program shape st.store cell ≡ Some k → is_of_kind setting.program st.store v k ≡ true
       → ((m : ℕ) → one_if_name m v ≡ one_if_name m (read st cell))
       → Keeps setting extra shape class st (written st cell v)
   write_keeps st cell k v s h f same =
@@ -97,7 +97,7 @@ module _ (setting : Setting) (extra : ℕ → ℕ) (shape : Locals) (class : ℕ
       in
       let hb1 : cell_kind setting.program shape st1.store b ≡ Some k = kind_stays setting extra shape class st a y b
       ∙ hb in
-      let fx : fits setting.program st1.store x k ≡ true =
+      let fx : is_of_kind setting.program st1.store x k ≡ true =
       fits_written st a y x k (read_fits setting extra shape class st a k t ha) in
       let moved = read_moved setting extra shape class st a b k t ha in
       record {

@@ -5,7 +5,7 @@ use Rattle.roopl_semantics.specs.rpp_words.declared.input.Limits.{Limits}
 use Rattle.roopl_semantics.specs.rpp_tree.Tree.{Statements, Source}
 use Rattle.roopl_semantics.specs.class_rules.Scope.{Locals, local_kind}
 use Rattle.roopl_semantics.specs.class_rules.Table.{table_of}
-use Rattle.roopl_semantics.specs.class_rules.Statements.{passed, check_statements}
+use Rattle.roopl_semantics.specs.class_rules.Statements.{verdict_passed, check_statements}
 use Rattle.roopl_semantics.specs.class_rules.Program.{IsAccepted, setting_in}
 use Rattle.roopl_semantics.specs.Run.{Done}
 use Rattle.roopl_semantics.specs.Store.{State}
@@ -41,7 +41,7 @@ ExecutionKeeps =
     (body : Statements) (start end : State) (cost : ℕ)
     → IsAccepted program
     → class < length program.classes → MeansSame locals shape
-    → check_statements (setting_in program (table_of program) class) locals body ≡ passed
+    → check_statements (setting_in program (table_of program) class) locals body ≡ verdict_passed
     → IsPlain body
     → Sound (record { program = program; limits = limits }) extra shape class start
     → exec (record { program = program; limits = limits }) fuel body start ≡ Done end cost

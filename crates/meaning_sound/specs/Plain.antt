@@ -6,7 +6,7 @@ use Rattle.std.specs.Str.{bytes_eq}
 use Rattle.roopl_semantics.specs.rpp_tree.declared.tree.Ident.{Ident}
 use Rattle.roopl_semantics.specs.rpp_tree.Tree.{Expression, Number, Null, Variable, Element, Binary, Lvalue, Whole}
 use Rattle.roopl_semantics.specs.rpp_tree.Tree.{Item, Creation, Object, Ints, Objects, Statement, Statements}
-use Rattle.roopl_semantics.specs.rpp_tree.Tree.{Procedure, ClassText, Source, Part, Operand, Target, Typed, Creates}
+use Rattle.roopl_semantics.specs.rpp_tree.Tree.{Procedure, ClassText, Source, TreePart, Operand, Target, Typed, Creates}
 use Rattle.roopl_semantics.specs.rpp_tree.Tree.{Invokes, Walk, walk, walk_block, each_part}
 
 -- the literals of an expression are words
@@ -49,7 +49,7 @@ ReceiverIsPlain (Some (Item name index)) args = HasWords index × IsNamed name �
     × AreNamed args
 
 -- the literals of a part are words, and so it is said of the receiver of a call
-abbrev pub PartHasWords : (Option Lvalue → List Ident → Type 0) → Part → Type 0
+abbrev pub PartHasWords : (Option Lvalue → List Ident → Type 0) → TreePart → Type 0
 PartHasWords Receiver (Operand value) = HasWords value
 PartHasWords Receiver (Target place) = PlaceHasWords place
 PartHasWords Receiver (Typed kind place) = PlaceHasWords place

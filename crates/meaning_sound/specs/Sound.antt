@@ -48,10 +48,10 @@ abbrev pub is_live : Store → ℕ → Bool
 is_live store name = is_some (head_named store name)
 
 -- whether a value is of a type: a word, nil, or the name of a live object or array of the type
-abbrev pub fits : Source → Store → Value → Kind → Bool
-fits program store (Word w) type = is_int type && nat_lt w (2 ^ 32)
-fits program store Nil type = not (is_int type)
-fits program store (Name n) type = named_fits program type (head_named store n)
+abbrev pub is_of_kind : Source → Store → Value → Kind → Bool
+is_of_kind program store (Word w) type = is_int type && nat_lt w (2 ^ 32)
+is_of_kind program store Nil type = not (is_int type)
+is_of_kind program store (Name n) type = named_fits program type (head_named store n)
 
 -- the types of the cells after a head
 abbrev pub cell_kinds : Source → Head → List Kind
@@ -64,14 +64,14 @@ abbrev pub AllFit : Source → Store → List Kind → List Value → Type 0
 AllFit program store [] [] = Unit {0}
 AllFit program store [] (v ∷ vs) = ⊥
 AllFit program store (k ∷ ks) [] = ⊥
-AllFit program store (k ∷ ks) (v ∷ vs) = (fits program store v k ≡ true)
+AllFit program store (k ∷ ks) (v ∷ vs) = (is_of_kind program store v k ≡ true)
     × AllFit program store ks vs
 
-abbrev pub value_of : Binding → Value
-value_of binding = binding.value
+abbrev pub bound_value : Binding → Value
+bound_value binding = binding.value
 
-abbrev pub name_of : Binding → List ℕ
-name_of binding = binding.name
+abbrev pub binding_name : Binding → List ℕ
+binding_name binding = binding.name
 
 abbrev pub local_name : Local → List ℕ
 local_name local = local.name
@@ -81,7 +81,7 @@ local_type local = local.kind
 
 -- how many cells of the store and of the current frame hold a name
 abbrev pub held : ℕ → State → ℕ
-held name st = holders name st.store + holders_among name (map value_of st.frame)
+held name st = holders name st.store + holders_among name (map bound_value st.frame)
 
 -- the names descend from a bound
 abbrev pub Descending : ℕ → Store → Type 0
@@ -110,8 +110,8 @@ pub record IsPlaced (setting : Setting) (store : Store) (log : Log) : Type 0 whe
 -- too
 pub record Typed (setting : Setting) (extra : ℕ → ℕ) (shape : Locals) (class : ℕ)
     (st : State) : Type 0 where
-  pub names : map name_of st.frame ≡ map local_name shape
-  pub variables : AllFit setting.program st.store (map local_type shape) (map value_of st.frame)
+  pub names : map binding_name st.frame ≡ map local_name shape
+  pub variables : AllFit setting.program st.store (map local_type shape) (map bound_value st.frame)
   pub objects : (name : ℕ) (object : Object) → object_named st.store name ≡ Some object
       → AllFit setting.program st.store (cell_kinds setting.program object.head) object.cells
   pub lives : (name : ℕ) → 0 < extra name → is_live st.store name ≡ true
@@ -126,8 +126,8 @@ pub record Typed (setting : Setting) (extra : ℕ → ℕ) (shape : Locals) (cla
 -- below, and as a receiver that moved into an active call.
 pub record Sound (setting : Setting) (extra : ℕ → ℕ) (shape : Locals) (class : ℕ)
     (st : State) : Type 0 where
-  pub names : map name_of st.frame ≡ map local_name shape
-  pub variables : AllFit setting.program st.store (map local_type shape) (map value_of st.frame)
+  pub names : map binding_name st.frame ≡ map local_name shape
+  pub variables : AllFit setting.program st.store (map local_type shape) (map bound_value st.frame)
   pub objects : (name : ℕ) (object : Object) → object_named st.store name ≡ Some object
       → AllFit setting.program st.store (cell_kinds setting.program object.head) object.cells
   pub counts : (name count : ℕ)

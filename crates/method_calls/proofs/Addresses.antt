@@ -13,7 +13,7 @@ use Rattle.refine_form.specs.code_conventions.Cells.{exch, addi}
 use Rattle.refine_form.specs.declared.spot.Spot.{Spot}
 use Rattle.refine_form.specs.declared.spot.Spot.TheVariants.{Field, Frame}
 use Rattle.refine_form.proofs.Rows.{here, next, will_row}
-use Rattle.method_calls.specs.CallCode.{base_of, reach_row, above_row}
+use Rattle.method_calls.specs.CallCode.{base_of, reach_row, above_cells}
 use Rattle.method_calls.specs.Facts.{address}
 use Rattle.method_calls.proofs.Exchanges.{exchanges}
 use Rattle.refine_form.proofs.Memories.{mk}
@@ -90,14 +90,14 @@ module _ (im : Image) (o f b c g : ℕ) (cs : List ℕ) where
 -- ---- a word of the frame above
 
 module _ (im : Image) (o f c : ℕ) (cs : List ℕ) (word : ℕ) (h : f + (FRAME_WORDS + word) < 2 ^ 32) where
-  pub will_raise : Will im (line (above_row word)) false (mk 0 o f 0 0 c 0 0 cs)
+  pub will_raise : Will im (line (above_cells word)) false (mk 0 o f 0 0 c 0 0 cs)
       (λ out. out ≡ Done (mk 0 o (f + (FRAME_WORDS + word)) 0 0 c 0 0 cs) 1)
-  will_raise = will_row im false (above_row word) 1 _ _ (next refl (omega (arith, h))
+  will_raise = will_row im false (above_cells word) 1 _ _ (next refl (omega (arith, h))
       (ap (λ v. Done (mk 0 o v 0 0 c 0 0 cs) 1) (sum_is f (FRAME_WORDS + word) (f + (FRAME_WORDS + word)) refl h)) here)
 
-  pub will_lower : Will im (line (above_row word)) true (mk 0 o (f + (FRAME_WORDS + word)) 0 0 c 0 0 cs)
+  pub will_lower : Will im (line (above_cells word)) true (mk 0 o (f + (FRAME_WORDS + word)) 0 0 c 0 0 cs)
       (λ out. out ≡ Done (mk 0 o f 0 0 c 0 0 cs) 1)
-  will_lower = will_row im true (above_row word) 1 _ _ (next refl (omega (arith, h))
+  will_lower = will_row im true (above_cells word) 1 _ _ (next refl (omega (arith, h))
       (ap (λ v. Done (mk 0 o v 0 0 c 0 0 cs) 1) (less_is (f + (FRAME_WORDS + word)) (FRAME_WORDS + word) f refl h))
       here)
 

@@ -9,7 +9,7 @@ use Rattle.refine_form.specs.roopl_semantics.Store.{changed_at}
 use Rattle.refine_form.specs.roopl_semantics.Value.{Cell, Slot, Part, read, written, with_value, value_at}
 use Rattle.refine_form.specs.roopl_semantics.Execution.{moved_out}
 use Rattle.refine_form.specs.Form.{World, Scope}
-use Rattle.method_calls.specs.Facts.{Known, FrameFacts, out_from, vals_from}
+use Rattle.method_calls.specs.Facts.{KnownCalls, FrameFacts, out_from, vals_from}
 use Rattle.method_calls.specs.Laws.{NotAmong, AllApart}
 use Rattle.refine_form.specs.rpp_tree.declared.tree.Ident.{Ident}
 use Rattle.method_calls.proofs.Moves.{cells_of}
@@ -237,7 +237,7 @@ same_values (c ∷ cells) st a = ap (λ v. v ∷ map (read st) cells) (sym (out_
     ∙ ap (λ l. read (out_from cells st) c ∷ l) (same_values cells st a.1)
 
 -- so arguments whose cells are apart may move in any order
-pub moves_alike : (w : World) (knows : Known w) (f : FrameFacts w knows) (s : Scope) (args : List Ident)
+pub moves_alike : (w : World) (knows : KnownCalls w) (f : FrameFacts w knows) (s : Scope) (args : List Ident)
     → ((u : w.Under) (st : State) (cells : List ℕ) → w.opens s u [] st cells → AllApart (cells_of w knows f s u args))
     → MovesAlike w knows f s args
 moves_alike w knows f s args apart u st cells h = (

@@ -22,7 +22,7 @@ use Rattle.refine_form.specs.roopl_semantics.Layout.{layout}
 use Rattle.refine_form.specs.declared.spot.Spot.{Spot}
 use Rattle.refine_form.specs.declared.spot.Spot.TheVariants.{Field, Frame}
 use Rattle.refine_form.specs.Cells.{around}
-use Rattle.refine_form.specs.Form.{World, Scope, StmtLaw, told}
+use Rattle.refine_form.specs.Form.{World, Scope, StmtLaw, run_result}
 use Rattle.refine_form.specs.Stands.{spot_in}
 use Rattle.refine_form.specs.Worlds.{world_of, rates_of}
 use Rattle.refine_form.specs.code_conventions.Cells.{addi}
@@ -30,8 +30,8 @@ use Rattle.method_calls.specs.CallCode.{fetch_row, depth_code, moves_code, move_
 use Rattle.method_calls.specs.CallCode.{behind_of, checked_of, front_on_of, call_code, call_on_code, own_cells}
 use Rattle.method_calls.specs.CallCode.{nil_code, take_code, onto_code, method_code, main_code, main_cells, local_open}
 use Rattle.method_calls.specs.CallCode.{local_code, save_row, store_code}
-use Rattle.method_calls.specs.Facts.{Known, FrameFacts}
-use Rattle.method_calls.specs.Names.{known_of, receivers_of, slot_of}
+use Rattle.method_calls.specs.Facts.{KnownCalls, FrameFacts}
+use Rattle.method_calls.specs.Names.{known_calls_of, receivers_of, method_slot_of}
 use Rattle.method_calls.specs.Laws.{LocalCode, OwnCallCode, CallOnCode, MethodCode, MainCode, AreVariables, quiet}
 use Rattle.method_calls.specs.Laws.{EntersMain}
 use Rattle.method_calls.proofs.Moves.{AllVariables}
@@ -69,7 +69,7 @@ on_same spot back x slot args = ap (λ z. around (nil_code (spot x)
 
 -- ---- laws
 
-variables_are : (w : World) (knows : Known w) (f : FrameFacts w knows) (s : Scope) (u : w.Under) (names : List Ident)
+variables_are : (w : World) (knows : KnownCalls w) (f : FrameFacts w knows) (s : Scope) (u : w.Under) (names : List Ident)
     → AreVariables w knows s names → AllVariables w knows f s u names
 variables_are w knows f s u [] h = tt
 variables_are w knows f s u (x ∷ names) h = (h.0, variables_are w knows f s u names h.1)
@@ -93,12 +93,12 @@ pub own_clause : (back : Bool) (slot : ℕ) (spots : List Spot) → OwnCallCode 
 own_clause back slot spots = record {
   law = λ place routine s at name args f is slot_is vars spots_are apart.
       let w = world_of place in
-      let knows = known_of place routine in
+      let knows = known_calls_of place routine in
       let spot = spot_in place.setting.program s in
       let law = call_law w knows f s at back name args is is.few (λ u. variables_are w knows f s u args vars)
       (moves_alike w knows f s args apart) in
       subst (λ z. StmtLaw w s (Call at back None name args) z)
-      (own_same spot back (slot_of place.setting.program s.class name) args
+      (own_same spot back (method_slot_of place.setting.program s.class name) args
       ∙ ap (λ k. own_cells back k (map spot args)) slot_is ∙ ap (own_cells back slot) spots_are) law;
 }
 
@@ -107,7 +107,7 @@ pub on_clause : (back : Bool) (spot : Spot) (slot : ℕ) (spots : List Spot)
 on_clause back sp slot spots = record {
   law = λ place routine s at x name args f g is slot_is vars spot_is spots_are apart.
       let w = world_of place in
-      let knows = known_of place routine in
+      let knows = known_calls_of place routine in
       let on = receivers_of place in
       let spot = spot_in place.setting.program s in
       let law = call_on_law w knows f on g s at back x name args is is.method.few
@@ -121,7 +121,7 @@ on_clause back sp slot spots = record {
 
 pub method_clause : (p : List Symbol) → MethodCode p (method_code p)
 method_clause p = record {
-  law = λ place routine s method f hp. method_law (world_of place) (known_of place routine) f s
+  law = λ place routine s method f hp. method_law (world_of place) (known_calls_of place routine) f s
       method p hp;
 }
 
@@ -131,14 +131,14 @@ main_clause number = record {
   enters = λ place routine input f main is.
       subst (λ k. (i : ℕ) → i + length (main_code k) < 2 ^ 30 → Stands place.im code_line i (main_code k)
       → EntersMain (world_of place) place.statics input main i (main_code k)) is
-      (λ i short stands. main_enters (world_of place) (known_of place routine) f place.statics input main i short
+      (λ i short stands. main_enters (world_of place) (known_calls_of place routine) f place.statics input main i short
       stands);
   law = λ place routine input f main is laws n.
       subst (λ k. Will place.im (main_code k) false (quiet (loaded place.statics place.setting.limits input))
       (Meets (λ st m. m ≡ quiet (layout place.setting.program place.setting.limits place.statics st.store st.log))
-      (rates_of place.setting) n 900 (told (exec place.setting n (main_body place.setting.program)
+      (rates_of place.setting) n 900 (run_result (exec place.setting n (main_body place.setting.program)
       (starting place.setting.program input))))) is
-      (main_does (world_of place) (known_of place routine) f place.statics input main laws n);
+      (main_does (world_of place) (known_calls_of place routine) f place.statics input main laws n);
 }
 
 -- ---- sizes

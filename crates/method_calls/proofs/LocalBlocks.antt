@@ -14,7 +14,7 @@ use Rattle.refine_form.specs.paired_code.declared.part.Symbol.{Symbol}
 use Rattle.refine_form.specs.paired_code.Machine.{Image}
 use Rattle.refine_form.specs.paired_code.Layout.{check_equal_cells, mirror_cells, Equal}
 use Rattle.refine_form.specs.paired_code.Pieces.{Done, Will}
-use Rattle.refine_form.specs.paired_code.Does.{Told, Fine, Fault, More, plus, told_then, Meets, fine, faults, Does}
+use Rattle.refine_form.specs.paired_code.Does.{RunResult, Fine, Fault, More, plus, told_then, Meets, fine, faults, Does}
 use Rattle.refine_form.specs.paired_code.Does.{in_order}
 use Rattle.refine_form.proofs.paired_code_laws.Laws.{will_of, will_more}
 use Rattle.refine_form.proofs.paired_code_laws.Checks.{runs_passes, runs_fails}
@@ -25,8 +25,8 @@ use Rattle.refine_form.specs.roopl_semantics.Store.{Value, State, same_value}
 use Rattle.refine_form.specs.roopl_semantics.Value.{Slot, read, evaluated}
 use Rattle.refine_form.specs.roopl_semantics.Execution.{exec, statement, opened, closed, with_local, constructed}
 use Rattle.refine_form.specs.roopl_semantics.Execution.{element_call, element_name}
-use Rattle.refine_form.specs.Form.{World, Scope, Moved, Open, holding, Owes, StmtLaw, BlockLaw, ValueLaw, with_var}
-use Rattle.refine_form.specs.Form.{told, one, turned}
+use Rattle.refine_form.specs.Form.{World, Scope, Moved, HasOpenFrame, holding, Owes, StmtLaw, BlockLaw, ValueLaw, with_var}
+use Rattle.refine_form.specs.Form.{run_result, one, turned_statement}
 use Rattle.refine_form.specs.declared.spot.Spot.TheVariants.{Frame}
 use Rattle.refine_form.specs.code_conventions.Cells.{exch}
 use Rattle.method_calls.specs.CallCode.{reach_row, store_code, local_open, local_code}
@@ -80,106 +80,106 @@ module _ (w : World) (IsInit : Scope → Var → Expression → Type 0) (f : Loc
   near vals s' st cs h = let a = f.frame_small s' u vals st cs h in let b = f.few_vars s var e is in omega arith
 
   -- the variable appears
-  abbrev appears : State → Told State
-  appears st = told_then (told (evaluated w.setting.program e st)) (λ c v. Fine (opened var.name.text v st) 0)
+  abbrev appears : State → RunResult State
+  appears st = told_then (run_result (evaluated w.setting.program e st)) (λ c v. Fine (opened var.name.text v st) 0)
 
-  pub opens_var : (n : ℕ) (st : State) (m : Memory) → Open w s u st m
-      → Will w.im (local_open j p) false m (Late 2 (Meets (Open w (with_var s var) u) w.rates n 53 (appears st)))
+  pub opens_var : (n : ℕ) (st : State) (m : Memory) → HasOpenFrame w s u st m
+      → Will w.im (local_open j p) false m (Late 2 (Meets (HasOpenFrame w (with_var s var) u) w.rates n 53 (appears st)))
   opens_var n st m h =
       let cs = m.cells in
-      let t = told (evaluated w.setting.program e st) in
+      let t = run_result (evaluated w.setting.program e st) in
       let rest : Will w.im (in_order false (p ∷ store_code j ∷ [])) false (mk 0 ob fr 0 0 0 0 0 cs)
-      (Meets (Open w (with_var s var) u) w.rates n (50 + 3) (appears st)) =
-      meets_then w.im false (λ v m1. m1 ≡ holding w u (bit_xor 0 (w.word_of u st v)) cs) (Open w (with_var s var) u)
+      (Meets (HasOpenFrame w (with_var s var) u) w.rates n (50 + 3) (appears st)) =
+      meets_then w.im false (λ v m1. m1 ≡ holding w u (bit_xor 0 (w.word_of u st v)) cs) (HasOpenFrame w (with_var s var) u)
       w.rates n 50 3 p (store_code j ∷ []) (mk 0 ob fr 0 0 0 0 0 cs) t (λ c v. Fine (opened var.name.text v st) 0)
       (will_more w.im p false _ _ _ (λ o q. meets_rate (omega (arith, thousand)) q)
       (hp n false u 0 st cs (w.are_read s u st cs h.open_frame))) (λ c v m1 said i.
       let x = w.word_of u st v in
       let z : bit_xor 0 x ≡ x = no_xor x in
       let known : m1 ≡ mk 0 ob fr 0 0 0 0 x cs = i ∙ ap (λ y. mk 0 ob fr 0 0 0 0 y cs) z in
-      let done : Open w (with_var s var) u (opened var.name.text v st) (mk 0 ob fr 0 0 0 0 0 (slice_set cs (fr + j) x))
+      let done : HasOpenFrame w (with_var s var) u (opened var.name.text v st) (mk 0 ob fr 0 0 0 0 0 (slice_set cs (fr + j) x))
       = record { regs_are = refl; open_frame = f.declares s u st cs var e v c h.open_frame is said } in
       will_last w.im false (store_code j) m1 _ (subst (λ z. Will w.im (store_code j) false z
-      (Meets (Open w (with_var s var) u) w.rates (n - c) 3 (Fine (opened var.name.text v st) 0))) (sym known)
+      (Meets (HasOpenFrame w (with_var s var) u) w.rates (n - c) 3 (Fine (opened var.name.text v st) 0))) (sym known)
       (will_more w.im (store_code j) false _ _ _ (λ o q. subst
-      (Meets (Open w (with_var s var) u) w.rates (n - c) 3 (Fine (opened var.name.text v st) 0)) (sym q)
+      (Meets (HasOpenFrame w (with_var s var) u) w.rates (n - c) 3 (Fine (opened var.name.text v st) 0)) (sym q)
       (fine done (omega arith) (omega arith)))
       (stores w.im ob fr j cs (f.free_in s u st cs var e h.open_frame is) (near [] s st cs h.open_frame) false x 0
       (f.free_word s u st cs var e h.open_frame is))))) in
       subst (λ z. Will w.im (local_open j p) false z (Late 2
-      (Meets (Open w (with_var s var) u) w.rates n 53 (appears st)))) (sym (as_known m _ h.regs_are))
+      (Meets (HasOpenFrame w (with_var s var) u) w.rates n 53 (appears st)))) (sym (as_known m _ h.regs_are))
       (will_two w.im (check_equal_cells VALUE NOUGHT DELOCAL) (p ++ store_code j) _ (mk 0 ob fr 0 0 0 0 0 cs) 2 _
       (will_of w.im _ false _ _ _ (runs_passes w.im false (Equal 12 7) 3 (mk 0 ob fr 0 0 0 0 0 cs) refl) refl)
       (will_more w.im (p ++ store_code j) false _ _ _ (λ o q. late q)
       (subst (λ z. Will w.im (p ++ z) false (mk 0 ob fr 0 0 0 0 0 cs)
-      (Meets (Open w (with_var s var) u) w.rates n 53 (appears st))) (append-nil (store_code j)) rest)))
+      (Meets (HasOpenFrame w (with_var s var) u) w.rates n 53 (appears st))) (append-nil (store_code j)) rest)))
     where
       no_xor : (x : ℕ) → bit_xor 0 x ≡ x
       no_xor x = refl
 
   -- the variable goes, if it has the closing value
-  abbrev pub checked : State → Value → Told State
-  checked st v = told (fault_if DELOCAL (not (same_value (read st (Slot 0)) v)) >>= λ z. give (closed st))
+  abbrev pub checked : State → Value → RunResult State
+  checked st v = run_result (fault_if DELOCAL (not (same_value (read st (Slot 0)) v)) >>= λ z. give (closed st))
 
-  abbrev pub goes_away : State → Told State
-  goes_away st = told_then (told (evaluated w.setting.program e st)) (λ c v. checked st v)
+  abbrev pub goes_away : State → RunResult State
+  goes_away st = told_then (run_result (evaluated w.setting.program e st)) (λ c v. checked st v)
 
   abbrev gone : List ℕ → List ℕ
   gone cs = slice_set cs (fr + j) 0
 
   last_check : (n : ℕ) (st : State) (cs : List ℕ) (v : Value) (c : ℕ) → w.opens (with_var s var) u [] st cs
-      → told (evaluated w.setting.program e (closed st)) ≡ Fine v c → (m1 : Memory)
+      → run_result (evaluated w.setting.program e (closed st)) ≡ Fine v c → (m1 : Memory)
       → m1 ≡ holding w u (bit_xor (w.word_of u st (read st (Slot 0))) (w.word_of u (closed st) v)) (gone cs)
       → (b : Bool) → same_value (read st (Slot 0)) v ≡ b → Will w.im (check_equal_cells VALUE NOUGHT DELOCAL) true m1
-      (Meets (Open w s u) w.rates n 2 (checked st v))
+      (Meets (HasOpenFrame w s u) w.rates n 2 (checked st v))
   last_check n st cs v c h said m1 i true same =
       let z = f.same_words s u st cs var e v c h is said same in
       let known : m1 ≡ mk 0 ob fr 0 0 0 0 0 (gone cs) = i ∙ ap (λ y. mk 0 ob fr 0 0 0 0 y (gone cs)) z in
-      let end : Open w s u (closed st) (mk 0 ob fr 0 0 0 0 0 (gone cs)) =
+      let end : HasOpenFrame w s u (closed st) (mk 0 ob fr 0 0 0 0 0 (gone cs)) =
       record { regs_are = refl; open_frame = f.closes s u st cs var e v c h is said same } in
       let told_is : checked st v ≡ Fine (closed st) 0 = ap
-      (λ b. told (fault_if DELOCAL (not b) >>= λ z. give (closed st))) same in
+      (λ b. run_result (fault_if DELOCAL (not b) >>= λ z. give (closed st))) same in
       subst (λ z. Will w.im (check_equal_cells VALUE NOUGHT DELOCAL) true z
-      (Meets (Open w s u) w.rates n 2 (checked st v)))
+      (Meets (HasOpenFrame w s u) w.rates n 2 (checked st v)))
       (sym known)
       (will_of w.im _ true _ _ _ (runs_passes w.im true (Equal 12 7) 3 (mk 0 ob fr 0 0 0 0 0 (gone cs)) refl)
       (meets_told _ _ (sym told_is) (fine end (omega arith) (omega arith))))
   last_check n st cs v c h said m1 i false same =
       let nz = f.other_words s u st cs var e v c h is said same in
       let x = bit_xor (w.word_of u st (read st (Slot 0))) (w.word_of u (closed st) v) in
-      let told_is : checked st v ≡ Fault DELOCAL 0 = ap (λ b. told (fault_if DELOCAL (not b) >>= λ z. give (closed st)))
+      let told_is : checked st v ≡ Fault DELOCAL 0 = ap (λ b. run_result (fault_if DELOCAL (not b) >>= λ z. give (closed st)))
       same in
       let k = runs_fails w.im true (Equal 12 7) 3 (mk 0 ob fr 0 0 0 0 x (gone cs)) nz in
       subst (λ z. Will w.im (check_equal_cells VALUE NOUGHT DELOCAL) true z
-      (Meets (Open w s u) w.rates n 2 (checked st v))) (sym i)
+      (Meets (HasOpenFrame w s u) w.rates n 2 (checked st v))) (sym i)
       (will_of w.im _ true _ _ _ k (meets_told _ _ (sym told_is) (faults (omega arith))))
 
-  pub closes_var : (n : ℕ) (st : State) (m : Memory) → Open w (with_var s var) u st m
-      → Will w.im (local_open j p) true m (Meets (Open w s u) w.rates n 55 (goes_away st))
+  pub closes_var : (n : ℕ) (st : State) (m : Memory) → HasOpenFrame w (with_var s var) u st m
+      → Will w.im (local_open j p) true m (Meets (HasOpenFrame w s u) w.rates n 55 (goes_away st))
   closes_var n st m h =
       let cs = m.cells in
       let x = w.word_of u st (read st (Slot 0)) in
       let cs1 = gone cs in
-      let t = told (evaluated w.setting.program e (closed st)) in
+      let t = run_result (evaluated w.setting.program e (closed st)) in
       let rest : Will w.im (in_order true (p ∷ check_equal_cells VALUE NOUGHT DELOCAL ∷ [])) true
       (mk 0 ob fr 0 0 0 0 x cs1)
-      (Meets (Open w s u) w.rates n (50 + 2) (told_then t (λ c v. checked st v))) =
-      meets_then w.im true (λ v m1. m1 ≡ holding w u (bit_xor x (w.word_of u (closed st) v)) cs1) (Open w s u) w.rates n
+      (Meets (HasOpenFrame w s u) w.rates n (50 + 2) (told_then t (λ c v. checked st v))) =
+      meets_then w.im true (λ v m1. m1 ≡ holding w u (bit_xor x (w.word_of u (closed st) v)) cs1) (HasOpenFrame w s u) w.rates n
       50 2 p (check_equal_cells VALUE NOUGHT DELOCAL ∷ []) (mk 0 ob fr 0 0 0 0 x cs1) t (λ c v. checked st v)
       (will_more w.im p true _ _ _ (λ o q. meets_rate (omega (arith, thousand)) q)
       (hp n true u x (closed st) cs1 (f.undeclares s u st cs var e h.open_frame is))) (λ c v m1 said i.
       last_check (n - c) st cs v c h.open_frame said m1 i (same_value (read st (Slot 0)) v) refl) in
       let said : goes_away st ≡ told_then t (λ c v. checked st v) =
-      ap (λ r. told_then (told r) (λ c v. checked st v)) (f.not_named s u st cs var e h.open_frame is) in
+      ap (λ r. told_then (run_result r) (λ c v. checked st v)) (f.not_named s u st cs var e h.open_frame is) in
       let all : Will w.im ((check_equal_cells VALUE NOUGHT DELOCAL ++ p) ++ store_code j) true (mk 0 ob fr 0 0 0 0 0 cs)
-      (Meets (Open w s u) w.rates n 55 (goes_away st)) =
+      (Meets (HasOpenFrame w s u) w.rates n 55 (goes_away st)) =
       will_two_back w.im (check_equal_cells VALUE NOUGHT DELOCAL ++ p) (store_code j) _ (mk 0 ob fr 0 0 0 0 x cs1) 3 _
       (stores w.im ob fr j cs (f.var_in s u st cs var e h.open_frame is)
       (near [] (with_var s var) st cs h.open_frame) true 0 x (f.var_word s u st cs var e h.open_frame is))
       (will_more w.im _ true _ _ _ (λ o q. meets_told _ _ (sym said) (meets_later 3 q)) rest) in
-      subst (λ z. Will w.im (local_open j p) true z (Meets (Open w s u) w.rates n 55 (goes_away st)))
+      subst (λ z. Will w.im (local_open j p) true z (Meets (HasOpenFrame w s u) w.rates n 55 (goes_away st)))
       (sym (as_known m _ h.regs_are))
-      (subst (λ z. Will w.im z true (mk 0 ob fr 0 0 0 0 0 cs) (Meets (Open w s u) w.rates n 55 (goes_away st)))
+      (subst (λ z. Will w.im z true (mk 0 ob fr 0 0 0 0 0 cs) (Meets (HasOpenFrame w s u) w.rates n 55 (goes_away st)))
       (append_assoc (check_equal_cells VALUE NOUGHT DELOCAL) p (store_code j)) all)
 
 -- ---- the whole
@@ -187,32 +187,32 @@ module _ (w : World) (IsInit : Scope → Var → Expression → Type 0) (f : Loc
 module _ (w : World) (IsInit : Scope → Var → Expression → Type 0) (f : LocalFacts w IsInit)
     (thousand : w.rates.steps ≡ 1000) (counts : 1 ≤ w.rates.counts) (s : Scope) (u : w.Under) (var : Var) where
   -- what the source says of a block with a local variable
-  abbrev says_local : ℕ → List ℕ → Expression → Statements → Expression → State → Told State
+  abbrev says_local : ℕ → List ℕ → Expression → Statements → Expression → State → RunResult State
   says_local n name e body e' st =
-      told_then (told_then (told (evaluated w.setting.program e st)) (λ c v. Fine (opened name v st) 0))
-      (λ c st1. told_then (told (exec w.setting n body st1))
-      (λ c end. told_then (told (evaluated w.setting.program e' end))
-      (λ c v. told (fault_if DELOCAL (not (same_value (read end (Slot 0)) v)) >>= λ z. give
+      told_then (told_then (run_result (evaluated w.setting.program e st)) (λ c v. Fine (opened name v st) 0))
+      (λ c st1. told_then (run_result (exec w.setting n body st1))
+      (λ c end. told_then (run_result (evaluated w.setting.program e' end))
+      (λ c v. run_result (fault_if DELOCAL (not (same_value (read end (Slot 0)) v)) >>= λ z. give
       (closed end)))))
 
   pub told_local : (n : ℕ) (name : List ℕ) (e : Expression) (body : Statements) (e' : Expression) (st : State)
-      → told (with_local w.setting (exec w.setting n) name e body e' st) ≡ says_local n name e body e' st
+      → run_result (with_local w.setting (exec w.setting n) name e body e' st) ≡ says_local n name e body e' st
   told_local n name e body e' st =
       let last : State → Value → Run State = λ end v. fault_if DELOCAL (not (same_value (read end (Slot 0)) v))
       >>= λ z. give (closed end) in
       let mid : State → Run State = λ end. evaluated w.setting.program e' end >>= last end in
-      let H : State → Told State = λ st1. told_then (told (exec w.setting n body st1))
-      (λ c end. told_then (told (evaluated w.setting.program e' end)) (λ c v. told (last end v))) in
+      let H : State → RunResult State = λ st1. told_then (run_result (exec w.setting n body st1))
+      (λ c end. told_then (run_result (evaluated w.setting.program e' end)) (λ c v. run_result (last end v))) in
       told_bind (evaluated w.setting.program e st) (λ v. exec w.setting n body (opened name v st) >>= mid)
-      ∙ same_then (told (evaluated w.setting.program e st))
-      (λ v. told (exec w.setting n body (opened name v st) >>= mid)) (λ v. H (opened name v st)) (λ v.
+      ∙ same_then (run_result (evaluated w.setting.program e st))
+      (λ v. run_result (exec w.setting n body (opened name v st) >>= mid)) (λ v. H (opened name v st)) (λ v.
       told_bind (exec w.setting n body (opened name v st)) mid
-      ∙ same_then (told (exec w.setting n body (opened name v st))) (λ end. told (mid end))
-      (λ end. told_then (told (evaluated w.setting.program e' end)) (λ c v. told (last end v)))
+      ∙ same_then (run_result (exec w.setting n body (opened name v st))) (λ end. run_result (mid end))
+      (λ end. told_then (run_result (evaluated w.setting.program e' end)) (λ c v. run_result (last end v)))
       (λ end. told_bind (evaluated w.setting.program e' end) (last end)))
-      ∙ sym (shift (told (evaluated w.setting.program e st)) (λ v. opened name v st) H)
+      ∙ sym (shift (run_result (evaluated w.setting.program e st)) (λ v. opened name v st) H)
     where
-      shift : {A B C : Type 0} (t : Told A) (o : A → B) (G : B → Told C)
+      shift : {A B C : Type 0} (t : RunResult A) (o : A → B) (G : B → RunResult C)
           → told_then (told_then t (λ c v. Fine (o v) 0)) (λ c x. G x) ≡ told_then t (λ c v. G (o v))
       shift (Fine a c) o G = let z : c + 0 ≡ c = omega arith in ap (λ k. plus k (G (o a))) z
       shift (Fault v c) o G = refl
@@ -221,25 +221,25 @@ module _ (w : World) (IsInit : Scope → Var → Expression → Type 0) (f : Loc
   -- the three parts in the order of a direction
   in_parts : (n : ℕ) (d : Bool) (e : Expression) (body : Statements) (e' : Expression) (p1 pb p3 : List Symbol)
       (st : State) (m : Memory)
-      → Will w.im p1 d m (Late 2 (Meets (Open w (with_var s var) u) w.rates n 53
-      (told_then (told (evaluated w.setting.program e st)) (λ c v. Fine (opened var.name.text v st) 0))))
-      → ((n' : ℕ) → n' ≤ n → Does w.im pb d (Open w (with_var s var) u) (Open w (with_var s var) u) w.rates n' 0
-      (λ st. told (exec w.setting n body st)))
-      → ((n' : ℕ) (st : State) (m : Memory) → Open w (with_var s var) u st m
-      → Will w.im p3 d m (Meets (Open w s u) w.rates n' 55
-      (told_then (told (evaluated w.setting.program e' st))
-      (λ c v. told (fault_if DELOCAL (not (same_value (read st (Slot 0)) v)) >>= λ z. give
+      → Will w.im p1 d m (Late 2 (Meets (HasOpenFrame w (with_var s var) u) w.rates n 53
+      (told_then (run_result (evaluated w.setting.program e st)) (λ c v. Fine (opened var.name.text v st) 0))))
+      → ((n' : ℕ) → n' ≤ n → Does w.im pb d (HasOpenFrame w (with_var s var) u) (HasOpenFrame w (with_var s var) u) w.rates n' 0
+      (λ st. run_result (exec w.setting n body st)))
+      → ((n' : ℕ) (st : State) (m : Memory) → HasOpenFrame w (with_var s var) u st m
+      → Will w.im p3 d m (Meets (HasOpenFrame w s u) w.rates n' 55
+      (told_then (run_result (evaluated w.setting.program e' st))
+      (λ c v. run_result (fault_if DELOCAL (not (same_value (read st (Slot 0)) v)) >>= λ z. give
       (closed st))))))
-      → Will w.im (in_order d (p1 ∷ pb ∷ p3 ∷ [])) d m (Meets (Open w s u) w.rates (n + 1) 0
+      → Will w.im (in_order d (p1 ∷ pb ∷ p3 ∷ [])) d m (Meets (HasOpenFrame w s u) w.rates (n + 1) 0
       (plus 1 (says_local n var.name.text e body e' st)))
   in_parts n d e body e' p1 pb p3 st m first block last =
-      let S = Open w (with_var s var) u in
-      let rest : State → Told State = λ end. told_then (told (evaluated w.setting.program e' end))
-      (λ c v. told (fault_if DELOCAL (not (same_value (read end (Slot 0)) v)) >>= λ z. give (closed end))) in
+      let S = HasOpenFrame w (with_var s var) u in
+      let rest : State → RunResult State = λ end. told_then (run_result (evaluated w.setting.program e' end))
+      (λ c v. run_result (fault_if DELOCAL (not (same_value (read end (Slot 0)) v)) >>= λ z. give (closed end))) in
       will_more w.im _ d _ _ _ (λ o q. late_counts 1 0 counts (omega arith) (omega (arith, thousand)) q)
-      (late_then w.im d S (Open w s u) w.rates n 53 (0 + 55) 2 p1 (pb ∷ p3 ∷ []) m _
-      (λ c st1. told_then (told (exec w.setting n body st1)) (λ c end. rest end)) first (λ c st1 m1 said i.
-      meets_then w.im d S (Open w s u) w.rates (n - c) 0 55 pb (p3 ∷ []) m1 (told (exec w.setting n body st1))
+      (late_then w.im d S (HasOpenFrame w s u) w.rates n 53 (0 + 55) 2 p1 (pb ∷ p3 ∷ []) m _
+      (λ c st1. told_then (run_result (exec w.setting n body st1)) (λ c end. rest end)) first (λ c st1 m1 said i.
+      meets_then w.im d S (HasOpenFrame w s u) w.rates (n - c) 0 55 pb (p3 ∷ []) m1 (run_result (exec w.setting n body st1))
       (λ c end. rest end) ((block (n - c) (omega arith)).does st1 m1 i) (λ c2 end m2 said2 i2.
       will_last w.im d p3 m2 _ (last (n - c - c2) end m2 i2))))
 
@@ -249,16 +249,16 @@ module _ (w : World) (IsInit : Scope → Var → Expression → Type 0) (f : Loc
     (body : Statements) (end_value : Expression) (stmt : Statement)
     (meant : (n : ℕ) (st : State) → statement w.setting n (exec w.setting n) stmt st
     ≡ with_local w.setting (exec w.setting n) var.name.text value body end_value st)
-    (meant_back : (n : ℕ) (st : State) → statement w.setting n (exec w.setting n) (turned true stmt) st
+    (meant_back : (n : ℕ) (st : State) → statement w.setting n (exec w.setting n) (turned_statement true stmt) st
     ≡ with_local w.setting (exec w.setting n) var.name.text end_value (inverse body) value st)
     (pv pb pe : List Symbol) (hv : ValueLaw w s value pv) (he : ValueLaw w s end_value pe)
     (hb : BlockLaw w (with_var s var) body pb) (is : IsInit s var value) (ie : IsInit s var end_value) where
-  runs_local : (n : ℕ) → Owes w (suc n) → (d : Bool) (u : w.Under) (st : State) (m : Memory) → Open w s u st m
-      → Will w.im (local_code (new_word s) pv pb pe) d m (Meets (Open w s u) w.rates (suc n) 0
-      (told (one w.setting n (turned d stmt) st)))
+  runs_local : (n : ℕ) → Owes w (suc n) → (d : Bool) (u : w.Under) (st : State) (m : Memory) → HasOpenFrame w s u st m
+      → Will w.im (local_code (new_word s) pv pb pe) d m (Meets (HasOpenFrame w s u) w.rates (suc n) 0
+      (run_result (one w.setting n (turned_statement d stmt) st)))
   runs_local n owes false u st m h =
-      let less : (n' : ℕ) → n' ≤ n → Does w.im pb false (Open w (with_var s var) u) (Open w (with_var s var) u) w.rates
-      n' 0 (λ st. told (exec w.setting n body st)) = λ n' l. record {
+      let less : (n' : ℕ) → n' ≤ n → Does w.im pb false (HasOpenFrame w (with_var s var) u) (HasOpenFrame w (with_var s var) u) w.rates
+      n' 0 (λ st. run_result (exec w.setting n body st)) = λ n' l. record {
         does = λ a m1 i. will_more w.im pb false _ _ _ (λ o q. meets_less n' l q)
             ((hb n (λ k l2. owes k (omega arith)) false u).does a m1 i);
       } in
@@ -267,16 +267,16 @@ module _ (w : World) (IsInit : Scope → Var → Expression → Type 0) (f : Loc
       h) less
       (λ n' a m1 i. will_mirror w.im (local_open (new_word s) pe) false m1 _
       (closes_var w IsInit f thousand s u var end_value pe he ie n' a m1 i)) in
-      let said = ap (λ r. told (after_cost 1 r)) (meant n st)
+      let said = ap (λ r. run_result (after_cost 1 r)) (meant n st)
       ∙ told_after 1 (with_local w.setting (exec w.setting n) var.name.text value body end_value st)
       ∙ ap (plus 1) (told_local w IsInit f thousand counts s u var n var.name.text value body end_value st) in
       subst (λ z. Will w.im (local_open (new_word s) pv ++ (pb ++ z)) false m
-      (Meets (Open w s u) w.rates (suc n) 0 (told (one w.setting n stmt st))))
+      (Meets (HasOpenFrame w s u) w.rates (suc n) 0 (run_result (one w.setting n stmt st))))
       (append-nil (mirror_cells (local_open (new_word s) pe)))
       (will_more w.im _ false _ _ _ (λ o q. meets_told _ _ (sym said) (meets_less (suc n) (omega arith) q)) all)
   runs_local n owes true u st m h =
-      let less : (n' : ℕ) → n' ≤ n → Does w.im pb true (Open w (with_var s var) u) (Open w (with_var s var) u) w.rates
-      n' 0 (λ st. told (exec w.setting n (inverse body) st)) =
+      let less : (n' : ℕ) → n' ≤ n → Does w.im pb true (HasOpenFrame w (with_var s var) u) (HasOpenFrame w (with_var s var) u) w.rates
+      n' 0 (λ st. run_result (exec w.setting n (inverse body) st)) =
       λ n' l. record {
         does = λ a m1 i. will_more w.im pb true _ _ _ (λ o q. meets_less n' l q)
             ((hb n (λ k l2. owes k (omega arith)) true u).does a m1 i);
@@ -286,12 +286,12 @@ module _ (w : World) (IsInit : Scope → Var → Expression → Type 0) (f : Loc
       (will_mirror w.im (local_open (new_word s) pe) true m _
       (opens_var w IsInit f thousand s u var end_value pe he ie n st m h)) less
       (λ n' a m1 i. closes_var w IsInit f thousand s u var value pv hv is n' a m1 i) in
-      let said = ap (λ r. told (after_cost 1 r)) (meant_back n st)
+      let said = ap (λ r. run_result (after_cost 1 r)) (meant_back n st)
       ∙ told_after 1 (with_local w.setting (exec w.setting n) var.name.text end_value (inverse body) value st)
       ∙ ap (plus 1) (told_local w IsInit f thousand counts s u var n var.name.text end_value (inverse body) value
       st) in
-      subst (λ z. Will w.im z true m (Meets (Open w s u) w.rates (suc n) 0
-      (told (one w.setting n (turned true stmt) st))))
+      subst (λ z. Will w.im z true m (Meets (HasOpenFrame w s u) w.rates (suc n) 0
+      (run_result (one w.setting n (turned_statement true stmt) st))))
       (append_assoc (local_open (new_word s) pv) pb (mirror_cells (local_open (new_word s) pe)))
       (will_more w.im _ true _ _ _ (λ o q. meets_told _ _ (sym said) (meets_less (suc n) (omega arith) q)) all)
 

@@ -11,7 +11,7 @@ use Rattle.refine_form.specs.code_conventions.Cells.{bra}
 use Rattle.refine_form.specs.paired_code.Cells.{swapbr}
 use Rattle.refine_form.specs.paired_code.declared.part.Symbol.{Symbol}
 use Rattle.refine_form.specs.paired_code.declared.part.Symbol.TheVariants.{Enter}
-use Rattle.refine_form.specs.paired_code.Machine.{Image, reg, with_reg}
+use Rattle.refine_form.specs.paired_code.Machine.{Image, memory_reg, memory_with_reg}
 use Rattle.refine_form.specs.paired_code.Layout.{at, base, between, code_line, mirror_cells, Stands, Routine}
 use Rattle.refine_form.specs.paired_code.Pieces.{Path, Done, Way, Ends, finishes, Will}
 use Rattle.refine_form.specs.paired_code.Rows.{line}
@@ -25,7 +25,7 @@ use Rattle.refine_form.specs.roopl_semantics.Layout.{layout}
 use Rattle.refine_form.specs.Form.{World, Entered}
 use Rattle.refine_form.proofs.Rules.{as_known}
 use Rattle.method_calls.specs.CallCode.{main_row, main_code}
-use Rattle.method_calls.specs.Facts.{Known, FrameFacts, MainFacts}
+use Rattle.method_calls.specs.Facts.{KnownCalls, FrameFacts, MainFacts}
 use Rattle.method_calls.specs.Laws.{EntersMain, main_start, body_start, body_end}
 use Rattle.method_calls.proofs.MainPiece.{sets_out, comes_home}
 use Rattle.refine_form.proofs.Memories.{mk}
@@ -56,18 +56,18 @@ module _ (im : Image) (r top : ℕ) (body : List Symbol) (t : Routine im r top b
   ne : p ≢ top + 1
   ne = apart im false (between p (top + 1)) p (top + 1) caller swap
 
-  go_in : (m : Memory) → reg m LINK ≡ 0 → Path im code_line a b 2 0 (at code_line false p m) 1
-      (at code_line false (top + 1 + 1) (with_reg m LINK (between p (top + 1))))
+  go_in : (m : Memory) → memory_reg m LINK ≡ 0 → Path im code_line a b 2 0 (at code_line false p m) 1
+      (at code_line false (top + 1 + 1) (memory_with_reg m LINK (between p (top + 1))))
   go_in m z = enter_path im r top body t code_line false false a b p p lo hi (on_line p) caller ne hp false refl m z
 
-  go_out : (m : Memory) → reg m LINK ≡ between (top + 1) p
+  go_out : (m : Memory) → memory_reg m LINK ≡ between (top + 1) p
       → Path im code_line a b 2 1 (at code_line false (top + 1) m) 0
-      (at code_line false (p + 1) (with_reg m LINK 0))
+      (at code_line false (p + 1) (memory_with_reg m LINK 0))
   go_out m z = leave_path im r top body t code_line false false a b p p lo hi (on_line p) caller ne hp false refl m z
 
 -- ---- the main fragment
 
-module _ (w : World) (knows : Known w) (f : FrameFacts w knows) (statics : List ℕ) (input : List FieldWord)
+module _ (w : World) (knows : KnownCalls w) (f : FrameFacts w knows) (statics : List ℕ) (input : List FieldWord)
     (mf : MainFacts w statics input) where
   abbrev number : ℕ
   number = w.routines.number mf.main
@@ -159,9 +159,9 @@ module _ (w : World) (knows : Known w) (f : FrameFacts w knows) (statics : List 
         let out : Path w.im code_line i last 2 1 (at code_line false (top + 1) m) 0
         (at code_line false (p + 1) (mk 0 MAIN_OBJECT frame 0 0 0 0 0 m.cells)) =
         subst (λ z. Path w.im code_line i last 2 1 (at code_line false (top + 1) m) 0
-        (at code_line false (p + 1) (with_reg z LINK 0))) known
+        (at code_line false (p + 1) (memory_with_reg z LINK 0))) known
         (go_out w.im number top body routine i last p (omega arith) (omega arith) p_small (behind.0, tt) m
-        (ap (λ z. reg z LINK) known)) in
+        (ap (λ z. memory_reg z LINK) known)) in
         let inside = and_then (way_wider top (top + 1 + 1 + 1 + length body + 1) (omega arith) (omega arith) along)
         (ends_jump w.im number top body routine false m) in
         let all : Way w.im code_line false i last (9 + (k + 2 + (2 + 6))) i (main_start w statics input) last

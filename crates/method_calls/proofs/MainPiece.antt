@@ -13,9 +13,9 @@ use Rattle.refine_form.specs.pisa_isa.declared.fixed.TheConstants.{STACK_CELL}
 use Rattle.refine_form.specs.code_conventions.declared.memory.TheConstants.{MAIN_OBJECT}
 use Rattle.refine_form.specs.code_conventions.declared.registers.TheConstants.{ADDRESS, CONTENT, FRAME, LINK, OBJECT}
 use Rattle.refine_form.specs.paired_code.declared.part.Symbol.TheVariants.{Enter}
-use Rattle.refine_form.specs.paired_code.Machine.{Image, reg, with_reg}
+use Rattle.refine_form.specs.paired_code.Machine.{Image, memory_reg, memory_with_reg}
 use Rattle.refine_form.specs.paired_code.Pieces.{Outcome, Done, Will}
-use Rattle.refine_form.specs.paired_code.Does.{Told, Fine, Meets, fine, faults, more}
+use Rattle.refine_form.specs.paired_code.Does.{RunResult, Fine, Meets, fine, faults, more}
 use Rattle.refine_form.specs.paired_code.Laws.{outcome_of}
 use Rattle.refine_form.specs.paired_code.Rows.{line}
 use Rattle.refine_form.proofs.paired_code_laws.Laws.{will_more}
@@ -24,14 +24,14 @@ use Rattle.refine_form.specs.roopl_semantics.Store.{State}
 use Rattle.refine_form.specs.roopl_semantics.Source.{starting, main_body}
 use Rattle.refine_form.specs.roopl_semantics.Layout.{layout}
 use Rattle.refine_form.specs.roopl_semantics.Execution.{exec}
-use Rattle.refine_form.specs.Form.{World, Entered, AllMethods, registers, told}
+use Rattle.refine_form.specs.Form.{World, Entered, AllMethods, registers, run_result}
 use Rattle.refine_form.proofs.Told.{alone}
 use Rattle.refine_form.proofs.Rules.{as_known, wraps, meets_told, meets_slack}
 use Rattle.refine_form.proofs.Rows.{here, next, will_row}
 use Rattle.refine_form.proofs.Blocks.{all_owe}
 use Rattle.refine_form.specs.code_conventions.Cells.{add, exch, addi}
 use Rattle.method_calls.specs.CallCode.{main_row, main_code}
-use Rattle.method_calls.specs.Facts.{Known, FrameFacts, MainFacts}
+use Rattle.method_calls.specs.Facts.{KnownCalls, FrameFacts, MainFacts}
 use Rattle.method_calls.proofs.Exchanges.{exchanges}
 use Rattle.method_calls.proofs.Addresses.{sum_is, difference_is}
 use Rattle.method_calls.proofs.Depth.{filled, emptied}
@@ -81,7 +81,7 @@ module _ (im : Image) (fr : ℕ) (cs : List ℕ) (inside : STACK_CELL < length c
       (next refl (omega arith) refl
       (next refl (omega arith) refl here))))))
 
-module _ (w : World) (knows : Known w) (f : FrameFacts w knows) (statics : List ℕ) (input : List FieldWord)
+module _ (w : World) (knows : KnownCalls w) (f : FrameFacts w knows) (statics : List ℕ) (input : List FieldWord)
     (mf : MainFacts w statics input) (laws : AllMethods w) where
   abbrev program : Source
   program = w.setting.program
@@ -97,14 +97,14 @@ module _ (w : World) (knows : Known w) (f : FrameFacts w knows) (statics : List 
     regs_are : m.regs ≡ registers 0 MAIN_OBJECT (w.frame_of mf.first) 0 0 0 0 0
     open_frame : w.opens (w.routines.scope mf.main) mf.first [] st m.cells
 
-  returned : {n : ℕ} {t : Told State} {o : Outcome} (link : ℕ)
+  returned : {n : ℕ} {t : RunResult State} {o : Outcome} (link : ℕ)
       → Meets (Entered w (w.routines.scope mf.main) mf.first link 0) w.rates n 40 t o
       → Returns link false (Meets InMain w.rates n 50 t) o
   returned link (fine {a = a} {m = m} {c = c} {k = k} r l x) =
       let known = as_known m _ (r.regs_are ∙ ap (λ o. registers link o (w.frame_of mf.first) 0 0 0 0 0) mf.object_is) in (
-        ap (λ z. reg z LINK) known,
+        ap (λ z. memory_reg z LINK) known,
         fine (record {
-          regs_are = ap (λ z. (with_reg z LINK 0).regs) known;
+          regs_are = ap (λ z. (memory_with_reg z LINK 0).regs) known;
           open_frame = r.open_frame;
         }) (grow w.rates.counts k c l) (omega arith),
       )
@@ -125,22 +125,22 @@ module _ (w : World) (knows : Known w) (f : FrameFacts w knows) (statics : List 
   Ended st m = m ≡ mk 0 0 0 0 0 0 0 0 (layout program limits statics st.store st.log)
 
   pub main_does : (n : ℕ) → Will w.im (main_code (w.routines.number mf.main)) false start
-      (Meets Ended w.rates n 900 (told (exec w.setting n (main_body program) (starting program input))))
+      (Meets Ended w.rates n 900 (run_result (exec w.setting n (main_body program) (starting program input))))
   main_does n =
       let fr = w.frame_of mf.first in
       let s = w.routines.scope mf.main in
       let stands = f.image.placed mf.main mf.is_routine in
-      let t = told (exec w.setting n (main_body program) (starting program input)) in
+      let t = run_result (exec w.setting n (main_body program) (starting program input)) in
       let owed = all_owe w laws (suc n) n (omega arith) mf.main mf.is_routine in
       let inner : (link : ℕ) → 0 < link → link < 2 ^ 32 → Will w.im (w.routines.body mf.main) false
-      (with_reg (mk 0 MAIN_OBJECT fr 0 0 0 0 0 loaded_cells) 2 link) (Returns link false (Meets InMain w.rates n 50 t))
+      (memory_with_reg (mk 0 MAIN_OBJECT fr 0 0 0 0 0 loaded_cells) 2 link) (Returns link false (Meets InMain w.rates n 50 t))
       =
       λ link pos lw.
       let inside : Entered w s mf.first link 0 (starting program input) (mk link MAIN_OBJECT fr 0 0 0 0 0 loaded_cells)
       =
       record { regs_are = ap (λ o. registers link o fr 0 0 0 0 0) (sym mf.object_is); open_frame = mf.starts } in
       will_more w.im (w.routines.body mf.main) false _ _ _
-      (λ o q. returned link (meets_told _ _ (ap (λ b. told (exec w.setting n b (starting program input)))
+      (λ o q. returned link (meets_told _ _ (ap (λ b. run_result (exec w.setting n b (starting program input)))
       mf.is_main) q)) ((owed false mf.first link 0 mf.fresh pos lw (omega arith)).does
       (starting program input) (mk link MAIN_OBJECT fr 0 0 0 0 0 loaded_cells) inside) in
       let mid : Will w.im (Enter (w.routines.number mf.main) false ∷ []) false

@@ -10,38 +10,38 @@ use Rattle.refine_form.specs.paired_code.Does.{Fine, told_then, Meets, fine}
 use Rattle.refine_form.proofs.paired_code_laws.Laws.{will_more}
 use Rattle.refine_form.specs.roopl_semantics.Store.{State}
 use Rattle.refine_form.specs.roopl_semantics.Execution.{exec, in_direction}
-use Rattle.refine_form.specs.Form.{World, Scope, Open, Entered, Owes, BlockLaw, MethodLaw, registers, told}
+use Rattle.refine_form.specs.Form.{World, Scope, HasOpenFrame, Entered, Owes, BlockLaw, MethodLaw, registers, run_result}
 use Rattle.method_calls.specs.CallCode.{save_row, method_code}
-use Rattle.method_calls.specs.Facts.{Known, FrameFacts}
+use Rattle.method_calls.specs.Facts.{KnownCalls, FrameFacts}
 use Rattle.refine_form.proofs.Rules.{as_known, wraps, meets_told, meets_slack}
 use Rattle.refine_form.proofs.Told.{alone}
 use Rattle.method_calls.proofs.Depth.{will_save, will_restore}
 use Rattle.refine_form.specs.paired_code.Rows.{line}
 use Rattle.refine_form.proofs.Memories.{mk}
 
-module _ (w : World) (knows : Known w) (f : FrameFacts w knows) (s : Scope) (method : Procedure) (p : List Symbol)
+module _ (w : World) (knows : KnownCalls w) (f : FrameFacts w knows) (s : Scope) (method : Procedure) (p : List Symbol)
     (hp : BlockLaw w s method.body p) where
   runs : (n : ℕ) → Owes w n → (d : Bool) (u : w.Under) (link place : ℕ) → w.IsFresh u → 0 < link → link < 2 ^ 32
       → place < 2 ^ 32 → (st : State) (m : Memory) → Entered w s u link place st m
       → Will w.im (method_code p) d m (Meets (Entered w s u link place) w.rates n 40
-      (told (exec w.setting n (in_direction d method.body) st)))
+      (run_result (exec w.setting n (in_direction d method.body) st)))
   runs n owes d u link place fresh pos lw pw st m h =
       let ob = w.object_of u in
       let fr = w.frame_of u in
       let cs = m.cells in
-      let t = told (exec w.setting n (in_direction d method.body) st) in
+      let t = run_result (exec w.setting n (in_direction d method.body) st) in
       let u2 = knows.put u link place in
       let free = f.puts.saves s u st cs h.open_frame fresh in
       let small = (f.steady s u [] st cs h.open_frame).frame_small in
       let cs1 = slice_set (slice_set cs fr link) (fr + PLACE_WORD) place in
-      let inner : Open w s u2 st (mk 0 ob fr 0 0 0 0 0 cs1) = record {
+      let inner : HasOpenFrame w s u2 st (mk 0 ob fr 0 0 0 0 0 cs1) = record {
         regs_are = ap (λ o. registers 0 o fr 0 0 0 0 0) (sym (f.puts.put_object u link place))
             ∙ ap (λ r. registers 0 (w.object_of u2) r 0 0 0 0 0) (sym (f.puts.put_frame u link place));
         open_frame = f.puts.put_opens s u st cs link place h.open_frame fresh lw pw;
       } in
       let all : Will w.im (method_code p) d (mk link ob fr 0 0 0 0 place cs)
       (Meets (Entered w s u link place) w.rates n (4 + (0 + 4)) (told_then t (λ c a. Fine a 0))) =
-      wraps w.im d (line save_row) p (mk link ob fr 0 0 0 0 place cs) (mk 0 ob fr 0 0 0 0 0 cs1) (Open w s u2)
+      wraps w.im d (line save_row) p (mk link ob fr 0 0 0 0 place cs) (mk 0 ob fr 0 0 0 0 0 cs1) (HasOpenFrame w s u2)
       (Entered w s u link place) w.rates n 0 4 4 t (λ a. Fine a 0)
       (will_save w.im ob fr link place cs free.words_in small free.link_word free.place_word)
       ((hp n owes d u2).does st _ inner) (λ a m2 c e r.

@@ -8,7 +8,7 @@ use Rattle.refine_form.specs.rpp_words.declared.input.TheConstants.{FRAME_WORDS}
 use Rattle.refine_form.specs.rpp_tree.declared.tree.Ident.{Ident}
 use Rattle.refine_form.specs.pisa_isa.Machine.{Memory}
 use Rattle.refine_form.specs.paired_code.Machine.{Image}
-use Rattle.refine_form.specs.paired_code.Pieces.{Outcome, Done, Trapped, Will, after}
+use Rattle.refine_form.specs.paired_code.Pieces.{Outcome, Done, Trapped, Will, outcome_after}
 use Rattle.refine_form.specs.paired_code.Does.{Fault, Meets, fine, faults}
 use Rattle.refine_form.proofs.paired_code_laws.Laws.{Next, will_of, will_more, will_seq_back}
 use Rattle.refine_form.proofs.paired_code_laws.Small.{runs_empty}
@@ -16,11 +16,11 @@ use Rattle.refine_form.specs.roopl_semantics.Run.{◌>>=◌, fault_if}
 use Rattle.refine_form.specs.roopl_semantics.Store.{Value, State, is_zero}
 use Rattle.refine_form.specs.roopl_semantics.Value.{Cell, read, written}
 use Rattle.refine_form.specs.roopl_semantics.Execution.{moved_back, TOUCHED}
-use Rattle.refine_form.specs.Form.{World, Scope, pairs, told}
-use Rattle.method_calls.specs.CallCode.{first_word, take_code, put_code, move_code, moves_code}
+use Rattle.refine_form.specs.Form.{World, Scope, pairs, run_result}
+use Rattle.method_calls.specs.CallCode.{first_frame_word, take_code, put_code, move_code, moves_code}
 use Rattle.refine_form.specs.declared.spot.Spot.{Spot}
 use Rattle.refine_form.specs.declared.spot.Spot.TheVariants.{Field, Frame}
-use Rattle.method_calls.specs.Facts.{address, IsNear, MovesBack, Known, FrameFacts, out_from, vals_from}
+use Rattle.method_calls.specs.Facts.{address, IsNear, MovesBack, KnownCalls, FrameFacts, out_from, vals_from}
 use Rattle.refine_form.proofs.Told.{told_after, plus_none}
 use Rattle.refine_form.proofs.Rules.{will_two, will_two_back, meets_told, meets_slack, meets_later}
 use Rattle.method_calls.proofs.ReceiverParts.{takes, gives_back, finds_touched, puts}
@@ -37,7 +37,7 @@ module _ (im : Image) (ob fr : ℕ) (sp : Spot) (j : ℕ) (cs : List ℕ) where
   at = address ob fr sp
 
   abbrev up : ℕ
-  up = fr + (FRAME_WORDS + (first_word + j))
+  up = fr + (FRAME_WORDS + (first_frame_word + j))
 
   -- up
   abbrev up_cells : List ℕ
@@ -50,10 +50,10 @@ module _ (im : Image) (ob fr : ℕ) (sp : Spot) (j : ℕ) (cs : List ℕ) where
       let cs1 = slice_set cs at 0 in
       let e : slice_index cs1 up ≡ 0 = get_or-set_other cs at up 0 0 (λ q. ne (sym q)) ∙ z in
       let l1 : up < length cs1 = omega (arith, length-set cs at 0) in
-      will_two im (take_code sp) (put_code (first_word + j)) _ (mk 0 ob fr 0 0 (slice_index cs at) 0 0 cs1) 5 _
+      will_two im (take_code sp) (put_code (first_frame_word + j)) _ (mk 0 ob fr 0 0 (slice_index cs at) 0 0 cs1) 5 _
       (takes im ob fr sp cs la ha)
-      (will_more im _ false _ _ _ (λ o q. ap (after 5) q)
-      (puts im ob fr (first_word + j) cs1 l1 hu false (slice_index cs at) 0 e))
+      (will_more im _ false _ _ _ (λ o q. ap (outcome_after 5) q)
+      (puts im ob fr (first_frame_word + j) cs1 l1 hu false (slice_index cs at) 0 e))
 
   -- back
   abbrev back_cells : List ℕ
@@ -63,8 +63,8 @@ module _ (im : Image) (ob fr : ℕ) (sp : Spot) (j : ℕ) (cs : List ℕ) where
   lowered = mk 0 ob fr 0 0 (slice_index cs up) 0 0 (slice_set cs up 0)
 
   lowers : up < 2 ^ 32 → up < length cs
-      → Will im (put_code (first_word + j)) true (mk 0 ob fr 0 0 0 0 0 cs) (λ o. o ≡ Done lowered 3)
-  lowers hu lu = puts im ob fr (first_word + j) cs lu hu true 0 (slice_index cs up) refl
+      → Will im (put_code (first_frame_word + j)) true (mk 0 ob fr 0 0 0 0 0 cs) (λ o. o ≡ Done lowered 3)
+  lowers hu lu = puts im ob fr (first_frame_word + j) cs lu hu true 0 (slice_index cs up) refl
 
   pub moves_down : at < 2 ^ 32 → up < 2 ^ 32 → at < length cs → up < length cs → at ≢ up → slice_index cs at ≡ 0
       → Will im (move_code sp j) true (mk 0 ob fr 0 0 0 0 0 cs) (λ o. o ≡ Done (mk 0 ob fr 0 0 0 0 0 back_cells) 8)
@@ -73,8 +73,8 @@ module _ (im : Image) (ob fr : ℕ) (sp : Spot) (j : ℕ) (cs : List ℕ) where
       let cs1 = slice_set cs up 0 in
       let e : slice_index cs1 at ≡ slice_index cs at = get_or-set_other cs up at 0 0 ne in
       let l1 : at < length cs1 = omega (arith, length-set cs up 0) in
-      will_two_back im (take_code sp) (put_code (first_word + j)) _ lowered 3 _ (lowers hu lu)
-      (will_more im _ true _ _ _ (λ o q. ap (after 3) q)
+      will_two_back im (take_code sp) (put_code (first_frame_word + j)) _ lowered 3 _ (lowers hu lu)
+      (will_more im _ true _ _ _ (λ o q. ap (outcome_after 3) q)
       (gives_back im ob fr sp cs1 l1 ha (slice_index cs up) (e ∙ z)))
 
   pub traps_down : at < 2 ^ 32 → up < 2 ^ 32 → at < length cs → up < length cs → at ≢ up → slice_index cs at ≢ 0
@@ -84,13 +84,13 @@ module _ (im : Image) (ob fr : ℕ) (sp : Spot) (j : ℕ) (cs : List ℕ) where
       let cs1 = slice_set cs up 0 in
       let e : slice_index cs1 at ≡ slice_index cs at = get_or-set_other cs up at 0 0 ne in
       let l1 : at < length cs1 = omega (arith, length-set cs up 0) in
-      will_two_back im (take_code sp) (put_code (first_word + j)) _ lowered 3 _ (lowers hu lu)
-      (will_more im _ true _ _ _ (λ o t. (3 + t.0, (let h = t.1 in omega arith), ap (after 3) t.2))
+      will_two_back im (take_code sp) (put_code (first_frame_word + j)) _ lowered 3 _ (lowers hu lu)
+      (will_more im _ true _ _ _ (λ o t. (3 + t.0, (let h = t.1 in omega arith), ap (outcome_after 3) t.2))
       (finds_touched im ob fr sp cs1 l1 ha (slice_index cs up) (λ q. nz (sym e ∙ q))))
 
 -- ---- all values
 
-module _ (w : World) (knows : Known w) (f : FrameFacts w knows) (s : Scope) (u : w.Under) where
+module _ (w : World) (knows : KnownCalls w) (f : FrameFacts w knows) (s : Scope) (u : w.Under) where
   abbrev pub cells_of : List Ident → List Cell
   cells_of names = map (knows.cell_of s u) names
 
@@ -146,7 +146,7 @@ module _ (w : World) (knows : Known w) (f : FrameFacts w knows) (s : Scope) (u :
           let os = steady.object_small in
           let fs = steady.frame_small in
           let at = address (w.object_of u) (w.frame_of u) sp in
-          let up = w.frame_of u + (FRAME_WORDS + (first_word + length vals)) in
+          let up = w.frame_of u + (FRAME_WORDS + (first_frame_word + length vals)) in
           let cs2 = slice_set (slice_set before.cells at 0) up (slice_index before.cells at) in
           let z : 8 * length names + 8 ≡ 8 * suc (length names) = omega arith in
           let step : Will w.im (move_code sp (length names)) false (plain w u before.cells)
@@ -160,13 +160,13 @@ module _ (w : World) (knows : Known w) (f : FrameFacts w knows) (s : Scope) (u :
             up = m.moved;
             goes = will_two w.im (moves_code (knows.spot s) names) (move_code sp (length names)) (plain w u cs)
                 (plain w u before.cells) (8 * length names) _ before.goes
-                (will_more w.im _ false _ _ _ (λ o q. ap (after (8 * length names)) q ∙ ap (Done (plain w u cs2)) z)
+                (will_more w.im _ false _ _ _ (λ o q. ap (outcome_after (8 * length names)) q ∙ ap (Done (plain w u cs2)) z)
                 step);
           }
 
   -- where they move back, in the order of the source
   abbrev Back : State → Memory → Type 0
-  Back st m = package.Rattle.refine_form.specs.Form.Open w s u st m
+  Back st m = package.Rattle.refine_form.specs.Form.HasOpenFrame w s u st m
 
   module _ (n : ℕ) (name : Ident) (names : List Ident) (is : knows.IsVariable s name) (v : Value) (vals : List Value)
       (st : State) (cs : List ℕ) (same : length (pairs names vals) ≡ length names) (l : length names < 32)
@@ -175,7 +175,7 @@ module _ (w : World) (knows : Known w) (f : FrameFacts w knows) (s : Scope) (u :
     here_at = address (w.object_of u) (w.frame_of u) (knows.spot s name)
 
     abbrev up_at : ℕ
-    up_at = w.frame_of u + (FRAME_WORDS + (first_word + length (pairs names vals)))
+    up_at = w.frame_of u + (FRAME_WORDS + (first_frame_word + length (pairs names vals)))
 
     abbrev c : Cell
     c = knows.cell_of s u name
@@ -196,19 +196,19 @@ module _ (w : World) (knows : Known w) (f : FrameFacts w knows) (s : Scope) (u :
         omega (arith, q, same, l)
 
     abbrev Q : Outcome → Type 0
-    Q o = Meets Back w.rates n (8 * suc (length names)) (told (moved_back (c ∷ cells_of names) (v ∷ vals) st)) o
+    Q o = Meets Back w.rates n (8 * suc (length names)) (run_result (moved_back (c ∷ cells_of names) (v ∷ vals) st)) o
 
     back_step : ((cs' : List ℕ) → w.opens s u (pairs names vals) (written st c v) cs'
         → Will w.im (moves_code (knows.spot s) names) true (plain w u cs')
-        (Meets Back w.rates n (8 * length names) (told (moved_back (cells_of names) vals (written st c v)))))
+        (Meets Back w.rates n (8 * length names) (run_result (moved_back (cells_of names) vals (written st c v)))))
         → (z : Bool) → is_zero (read st c) ≡ z → Will w.im (moves_code (knows.spot s) names
         ++ move_code (knows.spot s name) (length names)) true (plain w u cs) Q
     back_step rest true z =
-        let said : told (moved_back (c ∷ cells_of names) (v ∷ vals) st)
-        ≡ told (moved_back (cells_of names) vals (written st c v)) =
-        ap (λ b. told (fault_if TOUCHED (not b) >>= λ t. moved_back (cells_of names) vals (written st c v))) z
+        let said : run_result (moved_back (c ∷ cells_of names) (v ∷ vals) st)
+        ≡ run_result (moved_back (cells_of names) vals (written st c v)) =
+        ap (λ b. run_result (fault_if TOUCHED (not b) >>= λ t. moved_back (cells_of names) vals (written st c v))) z
         ∙ told_after 0 (moved_back (cells_of names) vals (written st c v))
-        ∙ plus_none (told (moved_back (cells_of names) vals (written st c v))) in
+        ∙ plus_none (run_result (moved_back (cells_of names) vals (written st c v))) in
         let first : Will w.im (move_code (knows.spot s name) (length names)) true (plain w u cs)
         (λ o. o ≡ Done (plain w u cs2) 8) =
         subst (λ k. Will w.im (move_code (knows.spot s name) k) true (plain w u cs) (λ o. o ≡ Done (plain w u cs2) 8))
@@ -220,8 +220,8 @@ module _ (w : World) (knows : Known w) (f : FrameFacts w knows) (s : Scope) (u :
         (will_more w.im _ true _ _ _ (λ o q. meets_told _ _ (sym said)
         (meets_slack (8 * suc (length names)) (omega arith) (meets_later 8 q))) (rest cs2 (m.back z)))
     back_step rest false z =
-        let said : told (moved_back (c ∷ cells_of names) (v ∷ vals) st) ≡ Fault TOUCHED 0 =
-        ap (λ b. told (fault_if TOUCHED (not b) >>= λ t. moved_back (cells_of names) vals (written st c v))) z
+        let said : run_result (moved_back (c ∷ cells_of names) (v ∷ vals) st) ≡ Fault TOUCHED 0 =
+        ap (λ b. run_result (fault_if TOUCHED (not b) >>= λ t. moved_back (cells_of names) vals (written st c v))) z
         in
         let first = subst (λ k. Will w.im (move_code (knows.spot s name) k) true (plain w u cs)
         (λ o. (k : ℕ) × (k ≤ 8) × (o ≡ Trapped TOUCHED k))) same
@@ -234,7 +234,7 @@ module _ (w : World) (knows : Known w) (f : FrameFacts w knows) (s : Scope) (u :
   pub all_back : (n : ℕ) (names : List Ident) → AllVariables names → (vals : List Value) (st : State) (cs : List ℕ)
       → length vals ≡ length names → length names ≤ 32 → w.opens s u (pairs names vals) st cs
       → Will w.im (moves_code (knows.spot s) names) true (plain w u cs)
-      (Meets Back w.rates n (8 * length names) (told (moved_back (cells_of names) vals st)))
+      (Meets Back w.rates n (8 * length names) (run_result (moved_back (cells_of names) vals st)))
   all_back n [] all [] st cs e l h = will_of w.im [] true _ _ _ (runs_empty w.im true (plain w u cs))
       (fine (record { regs_are = refl; open_frame = h }) (omega arith) (omega arith))
   all_back n [] all (v ∷ vals) st cs e l h = absurd (omega (arith, e))

@@ -12,9 +12,9 @@ use Rattle.refine_form.specs.pisa_isa.Machine.{Memory}
 use Rattle.refine_form.specs.pisa_isa.declared.fixed.TheConstants.{END_CELL}
 use Rattle.refine_form.specs.code_conventions.declared.registers.TheConstants.{FRAME, VALUE}
 use Rattle.refine_form.specs.paired_code.declared.part.Symbol.{Symbol}
-use Rattle.refine_form.specs.paired_code.Layout.{xor, enter_at_cells}
-use Rattle.refine_form.specs.paired_code.Pieces.{Outcome, Done, Trapped, Will, after}
-use Rattle.refine_form.specs.paired_code.Does.{Told, Fine, Fault, plus, told_then, Meets, faults}
+use Rattle.refine_form.specs.paired_code.Layout.{bool_xor, enter_at_cells}
+use Rattle.refine_form.specs.paired_code.Pieces.{Outcome, Done, Trapped, Will, outcome_after}
+use Rattle.refine_form.specs.paired_code.Does.{RunResult, Fine, Fault, plus, told_then, Meets, faults}
 use Rattle.refine_form.proofs.paired_code_laws.Laws.{Next, will_more, will_seq, will_seq_back}
 use Rattle.refine_form.proofs.paired_code_laws.Does.{Quiet, quiet, then_quiet}
 use Rattle.refine_form.specs.roopl_semantics.Run.{Run, ◌>>=◌, after_cost, fault_if}
@@ -22,11 +22,11 @@ use Rattle.refine_form.specs.roopl_semantics.Store.{Value, Name, State, is_zero,
 use Rattle.refine_form.specs.roopl_semantics.Value.{Cell, read, written, cell_named, NIL}
 use Rattle.refine_form.specs.roopl_semantics.Execution.{Setting, exec, in_direction, invoked, moved_out, moved_back}
 use Rattle.refine_form.specs.roopl_semantics.Execution.{bound, cells_named, class_of, is_too_deep, TOO_DEEP, TOUCHED}
-use Rattle.refine_form.specs.Form.{World, Scope, pairs, Open, Owes, StmtLaw, registers, told, one, turned}
+use Rattle.refine_form.specs.Form.{World, Scope, pairs, HasOpenFrame, Owes, StmtLaw, registers, run_result, one, turned_statement}
 use Rattle.refine_form.specs.code_conventions.Cells.{addi}
 use Rattle.method_calls.specs.CallCode.{depth_code, moves_code, fetch_row, nil_code, take_code, onto_code}
 use Rattle.method_calls.specs.CallCode.{front_on_code, call_on_code}
-use Rattle.method_calls.specs.Facts.{Known, FrameFacts, Receivers, ReceiverFacts, HasPlace, GoesOn, ComesBack, address}
+use Rattle.method_calls.specs.Facts.{KnownCalls, FrameFacts, Receivers, ReceiverFacts, HasPlace, ReceiverGoesOn, ReturnsReceiver, address}
 use Rattle.method_calls.specs.Facts.{ReceiverWord, FindsMethod, callee_on, out_from, vals_from}
 use Rattle.refine_form.proofs.Told.{told_after, told_bind, plus_none, plus_plus}
 use Rattle.refine_form.proofs.Rules.{wraps_spent, will_around, meets_told, meets_less, meets_later, meets_as, as_known}
@@ -45,32 +45,32 @@ use Rattle.refine_form.proofs.Memories.{mk}
 
 -- values that move back do not change the other cells
 stays : (cells : List Cell) (values : List Value) (st end : State) (k : ℕ) (c : Cell) → NotAmong c cells
-    → told (moved_back cells values st) ≡ Fine end k → read end c ≡ read st c
+    → run_result (moved_back cells values st) ≡ Fine end k → read end c ≡ read st c
 stays [] values st end k c n e = let q : st ≡ end = cc in ap (λ z. read z c) (sym q)
 stays (b ∷ cells) [] st end k c n e = let q : st ≡ end = cc in ap (λ z. read z c) (sym q)
 stays (b ∷ cells) (v ∷ values) st end k c n e = by (is_zero (read st b)) refl
     (λ k e. stays cells values (written st b v) end k c n.1 e)
   where
-    by : (z : Bool) → is_zero (read st b) ≡ z → ((k : ℕ) → told (moved_back cells values (written st b v)) ≡ Fine end k
+    by : (z : Bool) → is_zero (read st b) ≡ z → ((k : ℕ) → run_result (moved_back cells values (written st b v)) ≡ Fine end k
         → read end c ≡ read (written st b v) c) → read end c ≡ read st c
     by true z ih =
-        let said : told (moved_back (b ∷ cells) (v ∷ values) st) ≡ told (moved_back cells values (written st b v)) =
-        ap (λ x. told (fault_if TOUCHED (not x) >>= λ t. moved_back cells values (written st b v))) z
+        let said : run_result (moved_back (b ∷ cells) (v ∷ values) st) ≡ run_result (moved_back cells values (written st b v)) =
+        ap (λ x. run_result (fault_if TOUCHED (not x) >>= λ t. moved_back cells values (written st b v))) z
         ∙ told_after 0 (moved_back cells values (written st b v))
-        ∙ plus_none (told (moved_back cells values (written st b v))) in
+        ∙ plus_none (run_result (moved_back cells values (written st b v))) in
         ih k (sym said ∙ e) ∙ read_other st b c v (λ q. n.0 (sym q))
     by false z ih =
-        let said : told (moved_back (b ∷ cells) (v ∷ values) st) ≡ Fault TOUCHED 0 =
-        ap (λ x. told (fault_if TOUCHED (not x) >>= λ t. moved_back cells values (written st b v))) z in
+        let said : run_result (moved_back (b ∷ cells) (v ∷ values) st) ≡ Fault TOUCHED 0 =
+        ap (λ x. run_result (fault_if TOUCHED (not x) >>= λ t. moved_back cells values (written st b v))) z in
         let q : Fault TOUCHED 0 ≡ Fine end k = sym said ∙ e in absurd (cc)
 
 -- ---- what the source says of it
 
 module _ (setting : Setting) (n : ℕ) (back : Bool) (at : ℕ) (x name : Ident) (args : List Ident) (st : State) where
   -- the call, once it is known which method, cells and values
-  abbrev pub InvokedOn : Procedure → ℕ → Cell → List Cell → State → List Value → Value → Told State
+  abbrev pub InvokedOn : Procedure → ℕ → Cell → List Cell → State → List Value → Value → RunResult State
   InvokedOn method self c cells caller vals v =
-      told_then (told (exec setting n (in_direction back method.body)
+      told_then (run_result (exec setting n (in_direction back method.body)
       (record {
         frame = bound method.params vals;
         self = self;
@@ -78,7 +78,7 @@ module _ (setting : Setting) (n : ℕ) (back : Bool) (at : ℕ) (x name : Ident)
         store = caller.store;
         log = caller.log;
       })))
-      (λ k end. told (moved_back (c ∷ cells) (v ∷ map (λ binding. binding.value) end.frame)
+      (λ k end. run_result (moved_back (c ∷ cells) (v ∷ map (λ binding. binding.value) end.frame)
       (record caller { store = end.store; log = end.log })))
 
   abbrev the_cell : Cell
@@ -92,29 +92,29 @@ module _ (setting : Setting) (n : ℕ) (back : Bool) (at : ℕ) (x name : Ident)
   abbrev deep_run : Run State
   deep_run = fault_if TOO_DEEP (is_too_deep setting st) >>= λ z. call_run
 
-  counted : told (one setting n (Call at back (Some (Whole x)) name args) st)
-      ≡ plus (1 + length args) (told (fault_if NIL (is_nil (read st the_cell)) >>= λ z. deep_run))
+  counted : run_result (one setting n (Call at back (Some (Whole x)) name args) st)
+      ≡ plus (1 + length args) (run_result (fault_if NIL (is_nil (read st the_cell)) >>= λ z. deep_run))
   counted =
       told_after 1 (after_cost (length args) (fault_if NIL (is_nil (read st the_cell)) >>= λ z. deep_run))
       ∙ ap (plus 1) (told_after (length args) (fault_if NIL (is_nil (read st the_cell)) >>= λ z. deep_run))
-      ∙ plus_plus 1 (length args) (told (fault_if NIL (is_nil (read st the_cell)) >>= λ z. deep_run))
+      ∙ plus_plus 1 (length args) (run_result (fault_if NIL (is_nil (read st the_cell)) >>= λ z. deep_run))
 
   zero_more : 1 + length args + 0 ≡ 1 + length args
   zero_more = omega arith
 
-  pub says_nil : is_nil (read st the_cell) ≡ true → told (one setting n (Call at back (Some (Whole x)) name args) st)
+  pub says_nil : is_nil (read st the_cell) ≡ true → run_result (one setting n (Call at back (Some (Whole x)) name args) st)
       ≡ Fault NIL (1 + length args)
-  says_nil e = counted ∙ ap (λ b. plus (1 + length args) (told (fault_if NIL b >>= λ z. deep_run))) e
+  says_nil e = counted ∙ ap (λ b. plus (1 + length args) (run_result (fault_if NIL b >>= λ z. deep_run))) e
       ∙ ap (Fault NIL) zero_more
 
-  past_nil : is_nil (read st the_cell) ≡ false → told (one setting n (Call at back (Some (Whole x)) name args) st)
-      ≡ plus (1 + length args) (told deep_run)
-  past_nil e = counted ∙ ap (λ b. plus (1 + length args) (told (fault_if NIL b >>= λ z. deep_run))) e
-      ∙ ap (plus (1 + length args)) (told_after 0 deep_run ∙ plus_none (told deep_run))
+  past_nil : is_nil (read st the_cell) ≡ false → run_result (one setting n (Call at back (Some (Whole x)) name args) st)
+      ≡ plus (1 + length args) (run_result deep_run)
+  past_nil e = counted ∙ ap (λ b. plus (1 + length args) (run_result (fault_if NIL b >>= λ z. deep_run))) e
+      ∙ ap (plus (1 + length args)) (told_after 0 deep_run ∙ plus_none (run_result deep_run))
 
   pub says_deep : is_nil (read st the_cell) ≡ false → is_too_deep setting st ≡ true
-      → told (one setting n (Call at back (Some (Whole x)) name args) st) ≡ Fault TOO_DEEP (1 + length args)
-  says_deep e d = past_nil e ∙ ap (λ b. plus (1 + length args) (told (fault_if TOO_DEEP b >>= λ z. call_run))) d
+      → run_result (one setting n (Call at back (Some (Whole x)) name args) st) ≡ Fault TOO_DEEP (1 + length args)
+  says_deep e d = past_nil e ∙ ap (λ b. plus (1 + length args) (run_result (fault_if TOO_DEEP b >>= λ z. call_run))) d
       ∙ ap (Fault TOO_DEEP) zero_more
 
   pub says_on : (method : Procedure) (self : ℕ) (c : Cell) (cells : List Cell) (caller : State) (vals : List Value)
@@ -122,7 +122,7 @@ module _ (setting : Setting) (n : ℕ) (back : Bool) (at : ℕ) (x name : Ident)
       → number_of (read st c) ≡ self → method_named setting.program (class_of setting st (number_of (read st c)))
       name.text ≡ method → cells_named setting st args ≡ cells → moved_out (c ∷ cells) st ≡ caller
       → map (read st) cells ≡ vals → st.depth ≡ caller.depth
-      → told (one setting n (Call at back (Some (Whole x)) name args) st)
+      → run_result (one setting n (Call at back (Some (Whole x)) name args) st)
       ≡ plus (1 + length args) (InvokedOn method self c cells caller vals v)
   says_on method self c cells caller vals v e open_yet ec ev es em ecs eo evs ed =
       let Inv : Procedure → ℕ → Cell → List Cell → State → List Value → Value → ℕ
@@ -139,22 +139,22 @@ module _ (setting : Setting) (n : ℕ) (back : Bool) (at : ℕ) (x name : Ident)
       let M : Cell → Procedure = λ c. method_named setting.program (class_of setting st (number_of (read st c)))
       name.text in
       past_nil e ∙ ap (plus (1 + length args)) (
-      ap (λ b. told (fault_if TOO_DEEP b >>= λ z. call_run)) open_yet
+      ap (λ b. run_result (fault_if TOO_DEEP b >>= λ z. call_run)) open_yet
       ∙ told_after 0 call_run
-      ∙ plus_none (told call_run)
-      ∙ ap (λ k. told (Inv (M k) (number_of (read st k)) k (cells_named setting st args)
+      ∙ plus_none (run_result call_run)
+      ∙ ap (λ k. run_result (Inv (M k) (number_of (read st k)) k (cells_named setting st args)
       (moved_out (k ∷ cells_named setting st args) st) (map (read st) (cells_named setting st args)) (read st k)
       st.depth)) ec
-      ∙ ap (λ m. told (Inv m (number_of (read st c)) c (cells_named setting st args)
+      ∙ ap (λ m. run_result (Inv m (number_of (read st c)) c (cells_named setting st args)
       (moved_out (c ∷ cells_named setting st args) st) (map (read st) (cells_named setting st args)) (read st c)
       st.depth)) em
-      ∙ ap (λ i. told (Inv method i c (cells_named setting st args) (moved_out (c ∷ cells_named setting st args) st)
+      ∙ ap (λ i. run_result (Inv method i c (cells_named setting st args) (moved_out (c ∷ cells_named setting st args) st)
       (map (read st) (cells_named setting st args)) (read st c) st.depth)) es
-      ∙ ap (λ l. told (Inv method self c l (moved_out (c ∷ l) st) (map (read st) l) (read st c) st.depth)) ecs
-      ∙ ap (λ z. told (Inv method self c cells z (map (read st) cells) (read st c) st.depth)) eo
-      ∙ ap (λ l. told (Inv method self c cells caller l (read st c) st.depth)) evs
-      ∙ ap (λ z. told (Inv method self c cells caller vals z st.depth)) ev
-      ∙ ap (λ z. told (Inv method self c cells caller vals v z)) ed
+      ∙ ap (λ l. run_result (Inv method self c l (moved_out (c ∷ l) st) (map (read st) l) (read st c) st.depth)) ecs
+      ∙ ap (λ z. run_result (Inv method self c cells z (map (read st) cells) (read st c) st.depth)) eo
+      ∙ ap (λ l. run_result (Inv method self c cells caller l (read st c) st.depth)) evs
+      ∙ ap (λ z. run_result (Inv method self c cells caller vals z st.depth)) ev
+      ∙ ap (λ z. run_result (Inv method self c cells caller vals v z)) ed
       ∙ told_bind (exec setting n (in_direction back method.body)
       (record {
         frame = bound method.params vals;
@@ -168,7 +168,7 @@ module _ (setting : Setting) (n : ℕ) (back : Bool) (at : ℕ) (x name : Ident)
 
 -- ---- the fragment
 
-module _ (w : World) (knows : Known w) (f : FrameFacts w knows) (on : Receivers w) (g : ReceiverFacts w knows on)
+module _ (w : World) (knows : KnownCalls w) (f : FrameFacts w knows) (on : Receivers w) (g : ReceiverFacts w knows on)
     (s : Scope) (x name : Ident) (args : List Ident) (is : on.IsReceiver s x name args) (few : length args ≤ 32)
     (u : w.Under) (vars : AllVariables w knows f s u args)
     (not_arg : NotAmong (knows.cell_of s u x) (cells_of w knows f s u args)) (st : State) (cs : List ℕ)
@@ -274,7 +274,7 @@ module _ (w : World) (knows : Known w) (f : FrameFacts w knows) (on : Receivers 
     same_read : read moved_st c ≡ read st c
     same_read = out_reads cells c st not_arg
 
-    goes : GoesOn moved.cells at up ob (w.object_of deep) (w.opens (w.routines.scope r) deep [] callee)
+    goes : ReceiverGoesOn moved.cells at up ob (w.object_of deep) (w.opens (w.routines.scope r) deep [] callee)
     goes = g.calls.enters s u vals moved_st moved.cells x name args n_of moved.up is
         (long_vals cells ∙ as_many_cells args) room (ap is_nil same_read ∙ there) (ap number_of same_read)
 
@@ -333,7 +333,7 @@ module _ (w : World) (knows : Known w) (f : FrameFacts w knows) (on : Receivers 
         (will_two w.im onto_code _ _ _ 5 _ onto
         (will_two w.im (line (addi FRAME FRAME_WORDS ∷ [])) (line (fetch_row slot)) _ _ 1 _ raise
         (will_more w.im (line (fetch_row slot)) false _ _ _
-        (λ o q. ap (λ o. after 6 (after 8 (after (8 * length args) (after 5 (after 5 (after 1 o)))))) q)
+        (λ o q. ap (λ o. outcome_after 6 (outcome_after 8 (outcome_after (8 * length args) (outcome_after 5 (outcome_after 5 (outcome_after 1 o)))))) q)
         (fetched in_cells has_place)))))))
 
     -- what the source says when the body has ended
@@ -343,12 +343,12 @@ module _ (w : World) (knows : Known w) (f : FrameFacts w knows) (on : Receivers 
     abbrev values : State → List Value
     values end = map (λ binding. binding.value) end.frame
 
-    abbrev moves_home : State → Told State
-    moves_home end = told (moved_back (c ∷ cells) (Name n_of ∷ values end) (home end))
+    abbrev moves_home : State → RunResult State
+    moves_home end = run_result (moved_back (c ∷ cells) (Name n_of ∷ values end) (home end))
 
     -- the receiver is there again
     record Home (a : State) (m : Memory) : Type 0 where
-      opened_again : Open w s u a m
+      opened_again : HasOpenFrame w s u a m
       receiver : read a c ≡ Name n_of
 
     abbrev last_row : List Symbol
@@ -361,7 +361,7 @@ module _ (w : World) (knows : Known w) (f : FrameFacts w knows) (on : Receivers 
       abbrev m0 : Memory
       m0 = mk 0 (w.object_of deep) (fr + FRAME_WORDS) 0 0 0 0 place cs2
 
-      comes : ComesBack cs2 at up ob (w.object_of deep) (is_zero (read (home end) c))
+      comes : ReturnsReceiver cs2 at up ob (w.object_of deep) (is_zero (read (home end) c))
           (w.opens s u (pairs args (values end)) (written (home end) c (Name n_of)))
       comes = g.calls.leaves s u moved_st caller end cs2 x name args n_of (pairs args vals) moved.cells moved.up refl o
           is suits
@@ -385,9 +385,9 @@ module _ (w : World) (knows : Known w) (f : FrameFacts w knows) (on : Receivers 
           (let t = frame_small in omega arith))) here) in
           let both : Will w.im last_row true m0 (λ q. q ≡ Done (mk 0 word fr 0 0 0 0 0 cs2) 8) =
           will_two_back w.im (line (addi FRAME FRAME_WORDS ∷ [])) (line (fetch_row slot)) _ _ 7 _ (unfetched cs2 p)
-          (will_more w.im _ true _ _ _ (λ o q. ap (after 7) q) down) in
+          (will_more w.im _ true _ _ _ (λ o q. ap (outcome_after 7) q) down) in
           will_two_back w.im onto_code last_row m0 (mk 0 word fr 0 0 0 0 0 cs2) 8 _ both
-          (will_more w.im _ true _ _ _ (λ o q. ap (after 8) q)
+          (will_more w.im _ true _ _ _ (λ o q. ap (outcome_after 8) q)
           (turns_from w.im ob fr word cs2 comes.words.up_in (let t = object_small in omega arith) frame_small
           (let t = rw_small in omega arith) comes.saved))
 
@@ -401,15 +401,15 @@ module _ (w : World) (knows : Known w) (f : FrameFacts w knows) (on : Receivers 
           let cs3 = slice_set (out_cells cs2) at word in
           let home1 = written (home end) c (Name n_of) in
           let opens1 : w.opens s u (pairs args (values end)) home1 cs3 = comes.back z in
-          let said : moves_home end ≡ told (moved_back cells (values end) home1) =
-          ap (λ b. told (fault_if TOUCHED (not b) >>= λ t. moved_back cells (values end) home1)) z
+          let said : moves_home end ≡ run_result (moved_back cells (values end) home1) =
+          ap (λ b. run_result (fault_if TOUCHED (not b) >>= λ t. moved_back cells (values end) home1)) z
           ∙ told_after 0 (moved_back cells (values end) home1)
-          ∙ plus_none (told (moved_back cells (values end) home1)) in
+          ∙ plus_none (run_result (moved_back cells (values end) home1)) in
           let taken : Will w.im (take_code sp ++ (onto_code ++ last_row)) true m0
           (λ q. q ≡ Done (mk 0 ob fr 0 0 0 0 0 cs3) 18) =
           will_two_back w.im (take_code sp) (onto_code ++ last_row) m0 (mk 0 ob fr 0 0 word 0 0 (out_cells cs2)) 13 _
           lowered
-          (will_more w.im _ true _ _ _ (λ o q. ap (after 13) q)
+          (will_more w.im _ true _ _ _ (λ o q. ap (outcome_after 13) q)
           (gives_back w.im ob fr sp (out_cells cs2) still_in low word (same_word ∙ comes.cell.untouched z))) in
           let many = (g.calls.tells s u caller end cs2 x name args n_of o is suits).as_many in
           let there_again = g.words.is_there s u (pairs args (values end)) (home end) (Name n_of) cs3 x name args opens1
@@ -424,7 +424,7 @@ module _ (w : World) (knows : Known w) (f : FrameFacts w knows) (on : Receivers 
       arguments false z =
           let word = w.object_of deep in
           let home1 = written (home end) c (Name n_of) in
-          let said : moves_home end ≡ Fault TOUCHED 0 = ap (λ b. told
+          let said : moves_home end ≡ Fault TOUCHED 0 = ap (λ b. run_result
           (fault_if TOUCHED (not b) >>= λ t. moved_back cells (values end) home1)) z in
           let found = finds_touched w.im ob fr sp (out_cells cs2) still_in low word
           (λ e. comes.cell.touched z (sym same_word ∙ e)) in
@@ -432,20 +432,20 @@ module _ (w : World) (knows : Known w) (f : FrameFacts w knows) (on : Receivers 
           (λ q. (k : ℕ) × (k ≤ 18) × (q ≡ Trapped TOUCHED k)) =
           will_two_back w.im (take_code sp) (onto_code ++ last_row) m0 (mk 0 ob fr 0 0 word 0 0 (out_cells cs2)) 13 _
           lowered
-          (will_more w.im _ true _ _ _ (λ o t. (13 + t.0, (let l = t.1 in omega arith), ap (after 13) t.2)) found) in
+          (will_more w.im _ true _ _ _ (λ o t. (13 + t.0, (let l = t.1 in omega arith), ap (outcome_after 13) t.2)) found) in
           let W : Memory → ℕ → Type 0 = λ m1 k. Will w.im (moves_code (knows.spot s) args) true m1
-          (λ o. Moved (after k o)) in
+          (λ o. Moved (outcome_after k o)) in
           will_seq_back w.im (moves_code (knows.spot s) args) (take_code sp ++ (onto_code ++ last_row)) m0 Moved
           (will_more w.im _ true _ _ _ (λ o t. subst (Next W Moved) (sym t.2)
           (meets_told (Fault TOUCHED 0) _ (sym said) (faults (let l = t.1 in omega arith)))) taken)
 
       front_back : Will w.im (front_on_code (knows.spot s) x slot args) true m0
-          (Meets (Open w s u) w.rates n (18 + 8 * length args + 8 + 6) (moves_home end))
+          (Meets (HasOpenFrame w s u) w.rates n (18 + 8 * length args + 8 + 6) (moves_home end))
       front_back =
           let rest1 = moves_code (knows.spot s) args ++ (take_code sp ++ (onto_code ++ last_row)) in
           let inner = then_quiet w.im true Home Home w.rates n 8 (18 + 8 * length args) rest1 depth_code m0
           (moves_home end) (arguments (is_zero (read (home end) c)) refl) (λ a m i. deep_ok a m i) in
-          then_quiet w.im true Home (Open w s u) w.rates n 6 (18 + 8 * length args + 8) (depth_code ++ rest1)
+          then_quiet w.im true Home (HasOpenFrame w s u) w.rates n 6 (18 + 8 * length args + 8) (depth_code ++ rest1)
           (nil_code sp) m0 (moves_home end) inner (λ a m i. nil_ok a m i)
         where
           deep_ok : (a : State) (m : Memory) → Home a m → Will w.im depth_code true m (Quiet (Home a) 8)
@@ -463,23 +463,23 @@ module _ (w : World) (knows : Known w) (f : FrameFacts w knows) (on : Receivers 
               (depth_passes w.im ob fr m.cells e.cell_in e.small
               (end_fits a m.cells i.opened_again.open_frame false room) true (e.room room)))
 
-          nil_ok : (a : State) (m : Memory) → Home a m → Will w.im (nil_code sp) true m (Quiet (Open w s u a) 6)
+          nil_ok : (a : State) (m : Memory) → Home a m → Will w.im (nil_code sp) true m (Quiet (HasOpenFrame w s u a) 6)
           nil_ok a m i =
               let oa = i.opened_again.open_frame in
               let again = g.words.word s u a m.cells x name args oa is in
               let pos = again.name_word (ap is_nil i.receiver) in
-              subst (λ z. Will w.im (nil_code sp) true z (Quiet (Open w s u a) 6))
+              subst (λ z. Will w.im (nil_code sp) true z (Quiet (HasOpenFrame w s u a) 6))
               (sym (as_known m _ i.opened_again.regs_are))
-              (will_more w.im (nil_code sp) true _ _ _ (λ o q. subst (Quiet (Open w s u a) 6) (sym q)
+              (will_more w.im (nil_code sp) true _ _ _ (λ o q. subst (Quiet (HasOpenFrame w s u a) 6) (sym q)
               (quiet (record { regs_are = refl; open_frame = oa }) (omega arith)))
               (nil_passes w.im ob fr sp m.cells again.at_in low again.small true pos))
 
     called : (n : ℕ) → Owes w (suc n) → (kind d : Bool) → Will w.im (call_on_code (knows.spot s) kind x slot args) d
-        (mk 0 ob fr 0 0 0 0 0 cs) (Meets (Open w s u) w.rates (n + (1 + length args)) 0
-        (plus (1 + length args) (told_then (told (exec w.setting n
-        (in_direction (xor kind d) (w.routines.method r).body) callee)) (λ k end. moves_home end))))
+        (mk 0 ob fr 0 0 0 0 0 cs) (Meets (HasOpenFrame w s u) w.rates (n + (1 + length args)) 0
+        (plus (1 + length args) (told_then (run_result (exec w.setting n
+        (in_direction (bool_xor kind d) (w.routines.method r).body) callee)) (λ k end. moves_home end))))
     called n owes kind d =
-        let t = told (exec w.setting n (in_direction (xor kind d) (w.routines.method r).body) callee) in
+        let t = run_result (exec w.setting n (in_direction (bool_xor kind d) (w.routines.method r).body) callee) in
         let nf = (g.calls.next s u caller n_of).above in
         let body = enters_body w (w.routines.scope r) deep place r n (f.image.placed r known_routine) f.image.tidy refl
         (owes n (omega arith) r known_routine) (g.calls.next s u caller n_of).fresh kind d callee in_cells entered in
@@ -489,13 +489,13 @@ module _ (w : World) (knows : Known w) (f : FrameFacts w knows) (on : Receivers 
         subst (λ y. Will w.im (enter_at_cells VALUE kind) d (mk 0 (w.object_of deep) y 0 0 0 0 place in_cells)
         (Meets (InCall w (w.routines.scope r) deep place) w.rates n 55 t)) nf body in
         wraps_spent w.im d (front_on_code (knows.spot s) x slot args) (enter_at_cells VALUE kind) _ _
-        (InCall w (w.routines.scope r) deep place) (Open w s u) w.rates n 55 (18 + 8 * length args + 8 + 6)
+        (InCall w (w.routines.scope r) deep place) (HasOpenFrame w s u) w.rates n 55 (18 + 8 * length args + 8 + 6)
         (6 + (8 + (8 * length args + (5 + (5 + 8))))) (1 + length args) 0 t moves_home
         f.image.counts (omega arith) (enough w.rates.steps (length args) f.image.thousand few) front_in mid
         (λ a m2 k e i.
         let known = as_known m2 _ (i.regs_are ∙ ap (λ y. registers 0 (w.object_of deep) y 0 0 0 0 place) nf) in
         subst (λ z. Will w.im (front_on_code (knows.spot s) x slot args) true z
-        (Meets (Open w s u) w.rates (n - k) (18 + 8 * length args + 8 + 6) (moves_home a))) (sym known)
+        (Meets (HasOpenFrame w s u) w.rates (n - k) (18 + 8 * length args + 8 + 6) (moves_home a))) (sym known)
         (front_back (n - k) a m2.cells i.open_frame))
       where
         enough : (steps k : ℕ) → steps ≡ 1000 → k ≤ 32 → 6 + (8 + (8 * k + (5 + (5 + 8)))) +
@@ -506,12 +506,12 @@ module _ (w : World) (knows : Known w) (f : FrameFacts w knows) (on : Receivers 
   early : (n code : ℕ) (kind d : Bool) → Will w.im (front_on_code (knows.spot s) x slot args) false
       (mk 0 ob fr 0 0 0 0 0 cs) (λ o. (k : ℕ) × (k ≤ 40) × (o ≡ Trapped code k))
       → Will w.im (call_on_code (knows.spot s) kind x slot args) d (mk 0 ob fr 0 0 0 0 0 cs)
-      (Meets (Open w s u) w.rates (suc n) 0 (Fault code (1 + length args)))
+      (Meets (HasOpenFrame w s u) w.rates (suc n) 0 (Fault code (1 + length args)))
   early n code kind d t =
-      let Q : Outcome → Type 0 = Meets (Open w s u) w.rates (suc n) 0 (Fault code (1 + length args)) in
+      let Q : Outcome → Type 0 = Meets (HasOpenFrame w s u) w.rates (suc n) 0 (Fault code (1 + length args)) in
       let W : Memory → ℕ → Type 0 = λ m1 k1. Will w.im (enter_at_cells VALUE kind) d m1
-      (Next (λ m2 k2. Will w.im (front_on_code (knows.spot s) x slot args) true m2 (λ o. Q (after k1 (after k2 o))))
-      (λ o. Q (after k1 o))) in
+      (Next (λ m2 k2. Will w.im (front_on_code (knows.spot s) x slot args) true m2 (λ o. Q (outcome_after k1 (outcome_after k2 o))))
+      (λ o. Q (outcome_after k1 o))) in
       will_around w.im d (front_on_code (knows.spot s) x slot args) (enter_at_cells VALUE kind) _ Q
       (will_more w.im _ false _ _ _ (λ o q. subst (Next W Q) (sym q.2)
       (faults (few_steps w.rates.steps (length args) q.0 f.image.thousand q.1))) t)
@@ -524,12 +524,12 @@ module _ (w : World) (knows : Known w) (f : FrameFacts w knows) (on : Receivers 
       → Will w.im (p ++ q) false m (λ o. (k : ℕ) × (k ≤ K) × (o ≡ Trapped code k))
   trap_first p q m code K t =
       let Q : Outcome → Type 0 = λ o. (k : ℕ) × (k ≤ K) × (o ≡ Trapped code k) in
-      let W : Memory → ℕ → Type 0 = λ m1 k. Will w.im q false m1 (λ o. Q (after k o)) in
+      let W : Memory → ℕ → Type 0 = λ m1 k. Will w.im q false m1 (λ o. Q (outcome_after k o)) in
       will_seq w.im p q m Q (will_more w.im p false m _ _ (λ o y. subst (Next W Q) (sym y.2) (y.0, y.1, refl)) t)
 
   on_nil : (n : ℕ) (kind d : Bool) → is_nil (read st c) ≡ true
       → Will w.im (call_on_code (knows.spot s) kind x slot args) d (mk 0 ob fr 0 0 0 0 0 cs)
-      (Meets (Open w s u) w.rates (suc n) 0 (Fault NIL (1 + length args)))
+      (Meets (HasOpenFrame w s u) w.rates (suc n) 0 (Fault NIL (1 + length args)))
   on_nil n kind d z =
       early n 5 kind d (will_more w.im _ false _ _ _ (λ o q. (q.0, (let l = q.1 in omega arith), q.2))
       (trap_first (nil_code sp) _ _ 5 3 (nil_traps w.im ob fr sp cs peeked.at_in low peeked.small
@@ -537,29 +537,29 @@ module _ (w : World) (knows : Known w) (f : FrameFacts w knows) (on : Receivers 
 
   too_deep : (n : ℕ) (kind d : Bool) → is_nil (read st c) ≡ false → is_full ≡ true
       → Will w.im (call_on_code (knows.spot s) kind x slot args) d (mk 0 ob fr 0 0 0 0 0 cs)
-      (Meets (Open w s u) w.rates (suc n) 0 (Fault TOO_DEEP (1 + length args)))
+      (Meets (HasOpenFrame w s u) w.rates (suc n) 0 (Fault TOO_DEEP (1 + length args)))
   too_deep n kind d there e =
       let he = f.has_end s u st cs h in
       early n 14 kind d (will_two w.im (nil_code sp) _ _ _ 6 _
       (nil_passes w.im ob fr sp cs peeked.at_in low peeked.small false (peeked.name_word there))
-      (will_more w.im _ false _ _ _ (λ o q. (6 + q.0, (let l = q.1 in omega arith), ap (after 6) q.2))
+      (will_more w.im _ false _ _ _ (λ o q. (6 + q.0, (let l = q.1 in omega arith), ap (outcome_after 6) q.2))
       (trap_first depth_code _ _ 14 4 (depth_traps w.im ob fr cs he.cell_in he.small (end_fits st cs h true e)
       (he.at_end e)))))
 
 -- ---- the law
 
 turned_on : (d back : Bool) (at : ℕ) (x name : Ident) (args : List Ident)
-    → turned d (Call at back (Some (Whole x)) name args) ≡ Call at (xor d back) (Some (Whole x)) name args
+    → turned_statement d (Call at back (Some (Whole x)) name args) ≡ Call at (bool_xor d back) (Some (Whole x)) name args
 turned_on false back at x name args = refl
 turned_on true back at x name args = refl
 
-same_way : (d back : Bool) → xor back d ≡ xor d back
+same_way : (d back : Bool) → bool_xor back d ≡ bool_xor d back
 same_way false false = refl
 same_way false true = refl
 same_way true false = refl
 same_way true true = refl
 
-module _ (w : World) (knows : Known w) (f : FrameFacts w knows) (on : Receivers w) (g : ReceiverFacts w knows on)
+module _ (w : World) (knows : KnownCalls w) (f : FrameFacts w knows) (on : Receivers w) (g : ReceiverFacts w knows on)
     (s : Scope) (at : ℕ) (back : Bool) (x name : Ident) (args : List Ident) (is : on.IsReceiver s x name args)
     (few : length args ≤ 32) (vars : (u : w.Under) → AllVariables w knows f s u args)
     (apart : (u : w.Under) (st : State) (cells : List ℕ) → w.opens s u [] st cells
@@ -573,16 +573,16 @@ module _ (w : World) (knows : Known w) (f : FrameFacts w knows) (on : Receivers 
 
   abbrev Goal : ℕ → Bool → (u : w.Under) → State → Memory → Type 0
   Goal n d u st m = Will w.im (call_on_code (knows.spot s) back x (on.slot_on s x name) args) d m
-      (Meets (Open w s u) w.rates (suc n) 0 (told (one w.setting n (turned d (Call at back (Some (Whole x)) name args))
+      (Meets (HasOpenFrame w s u) w.rates (suc n) 0 (run_result (one w.setting n (turned_statement d (Call at back (Some (Whole x)) name args))
       st)))
 
-  law_by : (n : ℕ) → Owes w (suc n) → (d : Bool) (u : w.Under) (st : State) (m : Memory) → Open w s u st m
+  law_by : (n : ℕ) → Owes w (suc n) → (d : Bool) (u : w.Under) (st : State) (m : Memory) → HasOpenFrame w s u st m
       → (z b : Bool) → is_nil (read st (knows.cell_of s u x)) ≡ z
       → not (nat_lt (knows.depth_of u) w.setting.limits.deep) ≡ b → Goal n d u st m
   law_by n owes d u st m h true b ez e =
       let mean = (f.steady s u [] st m.cells h.open_frame).means x (g.words.is_variable s x name args is) in
-      let said = ap (λ z. told (one w.setting n z st)) (turned_on d back at x name args)
-      ∙ says_nil w.setting n (xor d back) at x name args st (ap (λ k. is_nil (read st k)) mean ∙ ez) in
+      let said = ap (λ z. run_result (one w.setting n z st)) (turned_on d back at x name args)
+      ∙ says_nil w.setting n (bool_xor d back) at x name args st (ap (λ k. is_nil (read st k)) mean ∙ ez) in
       subst (λ z. Goal n d u st z) (sym (as_known m _ h.regs_are))
       (will_more w.im _ d _ _ _ (λ o q. meets_told _ _ (sym said) q)
       (on_nil w knows f on g s x name args is few u (vars u) (apart u st m.cells h.open_frame).0 st m.cells
@@ -591,8 +591,8 @@ module _ (w : World) (knows : Known w) (f : FrameFacts w knows) (on : Receivers 
       let mean = (f.steady s u [] st m.cells h.open_frame).means x (g.words.is_variable s x name args is) in
       let deep : is_too_deep w.setting st ≡ true = ap (λ k. not (nat_lt k w.setting.limits.deep))
       (f.steady s u [] st m.cells h.open_frame).depth_is ∙ e in
-      let said = ap (λ z. told (one w.setting n z st)) (turned_on d back at x name args)
-      ∙ says_deep w.setting n (xor d back) at x name args st (ap (λ k. is_nil (read st k)) mean ∙ ez) deep in
+      let said = ap (λ z. run_result (one w.setting n z st)) (turned_on d back at x name args)
+      ∙ says_deep w.setting n (bool_xor d back) at x name args st (ap (λ k. is_nil (read st k)) mean ∙ ez) deep in
       subst (λ z. Goal n d u st z) (sym (as_known m _ h.regs_are))
       (will_more w.im _ d _ _ _ (λ o q. meets_told _ _ (sym said) q)
       (too_deep w knows f on g s x name args is few u (vars u) (apart u st m.cells h.open_frame).0 st m.cells
@@ -616,9 +616,9 @@ module _ (w : World) (knows : Known w) (f : FrameFacts w knows) (on : Receivers 
       let ed : st.depth ≡ caller.depth = depth
       ∙ sym (f.steady s u (pairs args vals) (out_from cells st) moving.cells moving.up).depth_is
       ∙ same_depth c (out_from cells st) (cleared (read (out_from cells st) c)) in
-      let said = ap (λ z. told (one w.setting n z st)) (turned_on d back at x name args)
-      ∙ ap (λ z. told (one w.setting n (Call at z (Some (Whole x)) name args) st)) (sym (same_way d back))
-      ∙ says_on w.setting n (xor back d) at x name args st method n_of c cells caller vals (Name n_of)
+      let said = ap (λ z. run_result (one w.setting n z st)) (turned_on d back at x name args)
+      ∙ ap (λ z. run_result (one w.setting n (Call at z (Some (Whole x)) name args) st)) (sym (same_way d back))
+      ∙ says_on w.setting n (bool_xor back d) at x name args st method n_of c cells caller vals (Name n_of)
       (ap (λ k. is_nil (read st k)) mean ∙ ez) open_yet mean
       ((g.words.word s u st m.cells x name args h.open_frame is).is_name ez) refl em
       (named u st m.cells args h.open_frame (vars u)) (moves_out (c ∷ cells) st (apart u st m.cells h.open_frame))
@@ -628,15 +628,15 @@ module _ (w : World) (knows : Known w) (f : FrameFacts w knows) (on : Receivers 
       let el : caller.log ≡ (out_from cells st).log = same_log c (out_from cells st)
       (cleared (read (out_from cells st) c)) in
       let run : ℕ → package.Rattle.refine_form.specs.buddy_book.Place.Log
-      → Told State = λ deepness log. plus (1 + length args)
-      (told_then (told (exec w.setting n (in_direction (xor back d) method.body)
+      → RunResult State = λ deepness log. plus (1 + length args)
+      (told_then (run_result (exec w.setting n (in_direction (bool_xor back d) method.body)
       (record {
         frame = bound method.params vals;
         self = n_of;
         depth = 1 + deepness;
         store = caller.store;
         log = log;
-      }))) (λ k end. told (moved_back (c ∷ cells)
+      }))) (λ k end. run_result (moved_back (c ∷ cells)
       (Name n_of ∷ map (λ binding. binding.value) end.frame)
       (record caller { store = end.store; log = end.log })))) in
       subst (λ z. Goal n d u st z) (sym (as_known m _ h.regs_are))

@@ -10,7 +10,7 @@ use Rattle.refine_form.specs.code_conventions.declared.faults.TheConstants.{NIL,
 use Rattle.refine_form.specs.code_conventions.declared.registers.TheConstants.{CONTENT, FRAME, MOVED, NOUGHT, OBJECT}
 use Rattle.refine_form.specs.paired_code.Machine.{Image}
 use Rattle.refine_form.specs.paired_code.Layout.{check_equal_cells, check_positive_cells}
-use Rattle.refine_form.specs.paired_code.Pieces.{Done, Trapped, Will, after}
+use Rattle.refine_form.specs.paired_code.Pieces.{Done, Trapped, Will, outcome_after}
 use Rattle.refine_form.specs.paired_code.Rows.{line}
 use Rattle.refine_form.proofs.paired_code_laws.Laws.{will_of, will_more}
 use Rattle.refine_form.specs.paired_code.Layout.{Equal, Positive}
@@ -20,7 +20,7 @@ use Rattle.refine_form.specs.Cells.{around}
 use Rattle.refine_form.specs.declared.spot.Spot.{Spot}
 use Rattle.refine_form.proofs.Rows.{here, next, will_row}
 use Rattle.refine_form.proofs.Rules.{will_in, will_in_trap, will_two, will_two_back}
-use Rattle.method_calls.specs.CallCode.{base_of, reach_row, above_row, take_code, put_code, peek_row, nil_code}
+use Rattle.method_calls.specs.CallCode.{base_of, reach_row, above_cells, take_code, put_code, peek_row, nil_code}
 use Rattle.method_calls.specs.CallCode.{onto_code}
 use Rattle.method_calls.specs.Facts.{address}
 use Rattle.method_calls.proofs.Addresses.{sum_is, difference_is, at_spot, will_reach, will_leave, swaps_moved}
@@ -54,7 +54,7 @@ module _ (im : Image) (ob fr : ℕ) (sp : Spot) (cs : List ℕ) (inside : addres
     peeks =
         will_two im (line (reach_row sp)) (line (exch CONTENT (base_of sp) ∷ [])) _ (on_spot 0 0 0 cs) 1 _
         (will_reach im ob fr 0 0 0 cs sp low)
-        (will_more im _ false _ _ _ (λ o q. ap (after 1) q) (swaps_content im ob fr 0 0 0 cs false sp inside))
+        (will_more im _ false _ _ _ (λ o q. ap (outcome_after 1) q) (swaps_content im ob fr 0 0 0 cs false sp inside))
 
     unpeeks : Will im (line (peek_row sp)) true (on_spot word 0 0 gone) (λ o. o ≡ Done (mk 0 ob fr 0 0 0 0 0 cs) 2)
     unpeeks =
@@ -62,7 +62,7 @@ module _ (im : Image) (ob fr : ℕ) (sp : Spot) (cs : List ℕ) (inside : addres
         (will_more im _ true _ _ _ (λ o q. q ∙ ap (λ v. Done (on_spot v 0 0 (slice_set gone at word)) 1)
         (emptied cs at inside) ∙ ap (λ l. Done (on_spot 0 0 0 l) 1) (filled cs at))
         (swaps_content im ob fr word 0 0 gone true sp still_in))
-        (will_more im _ true _ _ _ (λ o q. ap (after 1) q) (will_leave im ob fr 0 0 0 cs sp low))
+        (will_more im _ true _ _ _ (λ o q. ap (outcome_after 1) q) (will_leave im ob fr 0 0 0 cs sp low))
 
     pub nil_passes : (d : Bool) → 0 < word → Will im (nil_code sp) d (mk 0 ob fr 0 0 0 0 0 cs)
         (λ o. o ≡ Done (mk 0 ob fr 0 0 0 0 0 cs) 6)
@@ -90,7 +90,7 @@ module _ (im : Image) (ob fr : ℕ) (sp : Spot) (cs : List ℕ) (inside : addres
       (will_reach im ob fr 0 0 0 cs sp low)
       (will_two im (check_equal_cells MOVED NOUGHT TOUCHED) (line (exch MOVED (base_of sp) ∷ [])) _ _ 2 _
       (will_of im _ false _ _ _ (runs_passes im false (Equal MOVED NOUGHT) TOUCHED (on_spot 0 0 0 cs) refl) refl)
-      (will_more im _ false _ _ _ (λ o q. ap (after 2) q) (swaps_moved im ob fr 0 0 0 cs false sp inside)))
+      (will_more im _ false _ _ _ (λ o q. ap (outcome_after 2) q) (swaps_moved im ob fr 0 0 0 cs false sp inside)))
       (will_leave im ob fr 0 word 0 gone sp low)
 
   pub gives_back : (x : ℕ) → word ≡ 0 → Will im (take_code sp) true (mk 0 ob fr 0 0 x 0 0 cs)
@@ -143,7 +143,7 @@ module _ (im : Image) (ob fr w : ℕ) (cs : List ℕ) (inside : fr + (FRAME_WORD
       → Will im (put_code w) d (mk 0 ob fr 0 0 x 0 0 cs)
       (λ o. o ≡ Done (mk 0 ob fr 0 0 y 0 0 (slice_set cs above x)) 3)
   puts d x y e =
-      will_in im d (line (above_row w)) (line (exch MOVED FRAME ∷ [])) _ _ _ _ 1 1 1
+      will_in im d (line (above_cells w)) (line (exch MOVED FRAME ∷ [])) _ _ _ _ 1 1 1
       (will_raise im ob fr x cs w low) (swaps_above d x y e) (will_lower im ob fr y (slice_set cs above x) w low)
 
 -- ---- OBJECT
@@ -161,16 +161,16 @@ module _ (im : Image) (ob fr recv : ℕ) (cs : List ℕ) (inside : fr + (FRAME_W
       (λ o. o ≡ Done (mk 0 recv fr 0 0 0 0 0 (slice_set cs up ob)) 5)
   turns_to z =
       let cs1 = slice_set cs up ob in
-      will_two im (around (line (above_row 1)) (line (exch OBJECT FRAME ∷ [])))
+      will_two im (around (line (above_cells 1)) (line (exch OBJECT FRAME ∷ [])))
       (line (add OBJECT MOVED ∷ sub MOVED OBJECT ∷ [])) _
       (mk 0 0 fr 0 0 recv 0 0 cs1) 3 _
-      (will_in im false (line (above_row 1)) (line (exch OBJECT FRAME ∷ [])) _ _ _ _ 1 1 1
+      (will_in im false (line (above_cells 1)) (line (exch OBJECT FRAME ∷ [])) _ _ _ _ 1 1 1
       (will_raise im ob fr recv cs 1 up_low)
       (will_row im false (exch OBJECT FRAME ∷ []) 1 _ _ (next refl (omega arith)
       (exchanges false OBJECT FRAME (mk 0 ob up 0 0 recv 0 0 cs) inside
       ∙ ap (λ v. Done (mk 0 v up 0 0 recv 0 0 cs1) 1) z) here))
       (will_lower im 0 fr recv cs1 1 up_low))
-      (will_more im _ false _ _ _ (λ o q. ap (after 3) q) (will_row im false (add OBJECT MOVED ∷ sub MOVED OBJECT ∷ [])
+      (will_more im _ false _ _ _ (λ o q. ap (outcome_after 3) q) (will_row im false (add OBJECT MOVED ∷ sub MOVED OBJECT ∷ [])
       2 _ _
       (next refl (omega arith) (ap (λ v. Done (mk 0 v fr 0 0 recv 0 0 cs1) 1) (sum_is 0 recv recv (omega arith) small))
       (next refl (omega arith) (ap (λ v. Done (mk 0 recv fr 0 0 v 0 0 cs1) 1)
@@ -180,14 +180,14 @@ module _ (im : Image) (ob fr recv : ℕ) (cs : List ℕ) (inside : fr + (FRAME_W
       (λ o. o ≡ Done (mk 0 ob fr 0 0 recv 0 0 (slice_set cs up 0)) 5)
   turns_from z =
       let cs1 = slice_set cs up 0 in
-      will_two_back im (around (line (above_row 1)) (line (exch OBJECT FRAME ∷ [])))
+      will_two_back im (around (line (above_cells 1)) (line (exch OBJECT FRAME ∷ [])))
       (line (add OBJECT MOVED ∷ sub MOVED OBJECT ∷ [])) _
       (mk 0 0 fr 0 0 recv 0 0 cs) 2 _
       (will_row im true (sub MOVED OBJECT ∷ add OBJECT MOVED ∷ []) 2 _ _
       (next refl (omega arith) (ap (λ v. Done (mk 0 recv fr 0 0 v 0 0 cs) 1) (sum_is 0 recv recv (omega arith) small))
       (next refl (omega arith) (ap (λ v. Done (mk 0 v fr 0 0 recv 0 0 cs) 1)
       (difference_is recv recv 0 (omega arith) small)) here)))
-      (will_more im _ true _ _ _ (λ o q. ap (after 2) q) (will_in im true (line (above_row 1))
+      (will_more im _ true _ _ _ (λ o q. ap (outcome_after 2) q) (will_in im true (line (above_cells 1))
       (line (exch OBJECT FRAME ∷ [])) _
       _ _ _ 1 1 1 (will_raise im 0 fr recv cs 1 up_low)
       (will_row im true (exch OBJECT FRAME ∷ []) 1 _ _ (next refl (omega arith)

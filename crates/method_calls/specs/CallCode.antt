@@ -25,16 +25,16 @@ use Rattle.refine_form.specs.Cells.{around}
 pub use Rattle.refine_form.specs.Cells.{base_of, offset_of}
 
 -- the first variable's word in a frame
-abbrev pub first_word : ℕ
-first_word = FIRST_VARIABLE
+abbrev pub first_frame_word : ℕ
+first_frame_word = FIRST_VARIABLE
 
 -- the base goes to the storage slot
 abbrev pub reach_row : Spot → List Cell
 reach_row spot = addi (base_of spot) (offset_of spot) ∷ []
 
 -- FRAME goes to a word of the frame above
-abbrev pub above_row : ℕ → List Cell
-above_row word = addi FRAME (FRAME_WORDS + word) ∷ []
+abbrev pub above_cells : ℕ → List Cell
+above_cells word = addi FRAME (FRAME_WORDS + word) ∷ []
 
 -- the word of a storage slot leaves its cell for MOVED; back, the cell is to be 0
 abbrev pub take_code : Spot → List Symbol
@@ -43,12 +43,12 @@ take_code spot = around (line (reach_row spot))
 
 -- MOVED changes places with a word of the frame above
 abbrev pub put_code : ℕ → List Symbol
-put_code word = around (line (above_row word)) (line (exch MOVED FRAME ∷ []))
+put_code word = around (line (above_cells word)) (line (exch MOVED FRAME ∷ []))
 
 -- the value of a variable moves into a variable's word of the frame above; back, the variable is to
 -- be 0
 unfoldable pub move_code : Spot → ℕ → List Symbol
-move_code spot j = take_code spot ++ put_code (first_word + j)
+move_code spot j = take_code spot ++ put_code (first_frame_word + j)
 
 -- the last argument first
 abbrev pub moves_code : (Ident → Spot) → List Ident → List Symbol
@@ -124,7 +124,7 @@ nil_code spot = around (line (peek_row spot)) (check_positive_cells CONTENT NIL)
 
 -- OBJECT is saved in the frame above, and gets the receiver's word
 abbrev pub onto_code : List Symbol
-onto_code = around (line (above_row OBJECT_WORD)) (line (exch OBJECT FRAME ∷ []))
+onto_code = around (line (above_cells OBJECT_WORD)) (line (exch OBJECT FRAME ∷ []))
     ++ line (add OBJECT MOVED ∷ sub MOVED OBJECT ∷ [])
 
 -- before a call on the object of a variable

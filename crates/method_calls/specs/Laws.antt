@@ -20,13 +20,13 @@ use Rattle.refine_form.specs.roopl_semantics.Source.{starting, main_body}
 use Rattle.refine_form.specs.roopl_semantics.Layout.{layout}
 use Rattle.refine_form.specs.declared.spot.Spot.{Spot}
 use Rattle.refine_form.specs.Form.{World, Scope, with_var, ValueLaw, BlockLaw, StmtLaw}
-use Rattle.refine_form.specs.Form.{Entered, MethodLaw, AllMethods, registers, told}
+use Rattle.refine_form.specs.Form.{Entered, MethodLaw, AllMethods, registers, run_result}
 use Rattle.refine_form.specs.Stands.{spot_in}
 use Rattle.refine_form.specs.Worlds.{Place, rates_of, world_of}
-use Rattle.method_calls.specs.Facts.{Known, FrameFacts, ReceiverFacts, LocalFacts, MainFacts}
+use Rattle.method_calls.specs.Facts.{KnownCalls, FrameFacts, ReceiverFacts, LocalFacts, MainFacts}
 use Rattle.method_calls.specs.Facts.{new_word}
-use Rattle.method_calls.specs.Names.{HasMethod, IsReceiver, IsInit, known_of, receivers_of, slot_of}
-use Rattle.method_calls.specs.Names.{class_named}
+use Rattle.method_calls.specs.Names.{HasMethod, IsReceiver, IsInit, known_calls_of, receivers_of, method_slot_of}
+use Rattle.method_calls.specs.Names.{class_number_named}
 
 -- ---- blocks with a local variable
 
@@ -70,12 +70,12 @@ AllApart [] = Unit {0}
 AllApart (c ∷ cells) = NotAmong c cells × AllApart cells
 
 -- in every current frame of this scope the names are cells apart
-abbrev pub NamesApart : (w : World) → Known w → Scope → List Ident → Type 0
+abbrev pub NamesApart : (w : World) → KnownCalls w → Scope → List Ident → Type 0
 NamesApart w knows s names =
     (u : w.Under) (st : State) (cells : List ℕ) → w.opens s u [] st cells
     → AllApart (map (knows.cell_of s u) names)
 
-abbrev pub AreVariables : (w : World) → Known w → Scope → List Ident → Type 0
+abbrev pub AreVariables : (w : World) → KnownCalls w → Scope → List Ident → Type 0
 AreVariables w knows s [] = Unit {0}
 AreVariables w knows s (name ∷ names) = knows.IsVariable s name × AreVariables w knows s names
 
@@ -86,12 +86,12 @@ pub record OwnCallCode (back : Bool) (slot : ℕ) (spots : List Spot) (all : Lis
   where
     pub law : (place : Place) (routine : ℕ → Ident → ℕ) (s : Scope) (at : ℕ) (name : Ident)
         (args : List Ident)
-        → FrameFacts (world_of place) (known_of place routine)
+        → FrameFacts (world_of place) (known_calls_of place routine)
         → HasMethod place.setting.program s s.class name args
-        → slot_of place.setting.program s.class name ≡ slot
-        → AreVariables (world_of place) (known_of place routine) s args
+        → method_slot_of place.setting.program s.class name ≡ slot
+        → AreVariables (world_of place) (known_calls_of place routine) s args
         → map (spot_in place.setting.program s) args ≡ spots
-        → NamesApart (world_of place) (known_of place routine) s args
+        → NamesApart (world_of place) (known_calls_of place routine) s args
         → StmtLaw (world_of place) s (Call at back None name args) all
 
 -- A call or uncall on the object of a variable at a storage slot: fault 5 comes before fault 14, if
@@ -100,14 +100,14 @@ pub record CallOnCode (back : Bool) (spot : Spot) (slot : ℕ) (spots : List Spo
     (all : List Symbol) : Type 0 where
   pub law : (place : Place) (routine : ℕ → Ident → ℕ) (s : Scope) (at : ℕ) (x name : Ident)
       (args : List Ident)
-      → FrameFacts (world_of place) (known_of place routine)
-      → ReceiverFacts (world_of place) (known_of place routine) (receivers_of place)
+      → FrameFacts (world_of place) (known_calls_of place routine)
+      → ReceiverFacts (world_of place) (known_calls_of place routine) (receivers_of place)
       → IsReceiver place.setting.program s x name args
-      → slot_of place.setting.program (class_named place.setting.program s x) name ≡ slot
-      → AreVariables (world_of place) (known_of place routine) s args
+      → method_slot_of place.setting.program (class_number_named place.setting.program s x) name ≡ slot
+      → AreVariables (world_of place) (known_calls_of place routine) s args
       → spot_in place.setting.program s x ≡ spot
       → map (spot_in place.setting.program s) args ≡ spots
-      → NamesApart (world_of place) (known_of place routine) s (x ∷ args)
+      → NamesApart (world_of place) (known_calls_of place routine) s (x ∷ args)
       → StmtLaw (world_of place) s (Call at back (Some (Whole x)) name args) all
 
 -- ---- methods and main
@@ -115,7 +115,7 @@ pub record CallOnCode (back : Bool) (spot : Spot) (slot : ℕ) (spots : List Spo
 -- a method's body: the link and the place are saved around its block
 pub record MethodCode (p all : List Symbol) : Type 0 where
   pub law : (place : Place) (routine : ℕ → Ident → ℕ) (s : Scope) (method : Procedure)
-      → FrameFacts (world_of place) (known_of place routine)
+      → FrameFacts (world_of place) (known_calls_of place routine)
       → BlockLaw (world_of place) s method.body p → MethodLaw (world_of place) s method all
 
 -- a memory whose registers are 0
@@ -162,17 +162,17 @@ pub record EntersMain (w : World) (statics : List ℕ) (input : List FieldWord)
 -- the source says of `main`, and leaves the layout with zero registers.
 pub record MainCode (number : ℕ) (all : List Symbol) : Type 0 where
   pub enters : (place : Place) (routine : ℕ → Ident → ℕ) (input : List FieldWord)
-      → FrameFacts (world_of place) (known_of place routine)
+      → FrameFacts (world_of place) (known_calls_of place routine)
       → (main : MainFacts (world_of place) place.statics input)
       → place.routines.number main.main ≡ number
       → (i : ℕ) → i + length all < 2 ^ 30 → Stands place.im code_line i all
       → EntersMain (world_of place) place.statics input main i all
   pub law : (place : Place) (routine : ℕ → Ident → ℕ) (input : List FieldWord)
-      → FrameFacts (world_of place) (known_of place routine)
+      → FrameFacts (world_of place) (known_calls_of place routine)
       → (main : MainFacts (world_of place) place.statics input)
       → place.routines.number main.main ≡ number → AllMethods (world_of place)
       → (n : ℕ) → Will place.im all false (quiet (loaded place.statics place.setting.limits input))
       (Meets (λ st m. m ≡ quiet (layout place.setting.program place.setting.limits place.statics
       st.store st.log)) (rates_of place.setting) n 900
-      (told (exec place.setting n (main_body place.setting.program)
+      (run_result (exec place.setting n (main_body place.setting.program)
       (starting place.setting.program input))))

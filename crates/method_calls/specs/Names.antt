@@ -17,10 +17,10 @@ use Rattle.refine_form.specs.roopl_semantics.Store.{State, object_at, class_of_h
 use Rattle.refine_form.specs.roopl_semantics.Layout.{no_placing}
 use Rattle.refine_form.specs.meaning_sound.Plain.{HasWords}
 use Rattle.refine_form.specs.Form.{Scope}
-use Rattle.refine_form.specs.Frames.{Caller, Under, spare_words, cell_in, address_of}
+use Rattle.refine_form.specs.Frames.{CallerFrame, Under, spare_words, cell_in, address_of}
 use Rattle.refine_form.specs.Stands.{shape_of, spot_in}
 use Rattle.refine_form.specs.Worlds.{Place, world_of}
-use Rattle.method_calls.specs.Facts.{IsNear, Known, Receivers}
+use Rattle.method_calls.specs.Facts.{IsNear, KnownCalls, Receivers}
 use Rattle.refine_form.specs.code_conventions.declared.memory.TheConstants.{MOST_VARIABLES, FIRST_VARIABLE}
 
 -- ---- variables, methods, receivers
@@ -63,8 +63,8 @@ pub record IsReceiver (program : Source) (s : Scope) (x name : Ident) (args : Li
     pub method : HasMethod program s class name args
 
 -- the slot of a method of a class
-abbrev pub slot_of : Source → ℕ → Ident → ℕ
-slot_of program class name = unwrap_or (slot_in (table_of program) class name.text) 0
+abbrev pub method_slot_of : Source → ℕ → Ident → ℕ
+method_slot_of program class name = unwrap_or (slot_in (table_of program) class name.text) 0
 
 -- the class of a variable
 abbrev pub class_of_kind : Kind → ℕ
@@ -75,8 +75,8 @@ abbrev pub class_found : {E : Type 0} → Result Kind E → ℕ
 class_found (Ok k) = class_of_kind k
 class_found (Err e) = 0
 
-abbrev pub class_named : Source → Scope → Ident → ℕ
-class_named program s x =
+abbrev pub class_number_named : Source → Scope → Ident → ℕ
+class_number_named program s x =
     class_found (variable_type (setting_in program (table_of program) s.class) (shape_of program s)
     x)
 
@@ -87,7 +87,7 @@ abbrev pub put : Under → ℕ → ℕ → Under
 put u link place = record u { put_by = link ∷ slice_index u.put_by 1 ∷ place ∷ spare_words }
 
 -- the current frame as a frame below
-abbrev pub caller_of : Scope → Under → State → Caller
+abbrev pub caller_of : Scope → Under → State → CallerFrame
 caller_of s u st = record {
   scope = s;
   frame = st.frame;
@@ -119,12 +119,12 @@ deeper_on p s u st name = record {
 }
 
 -- what is known at a place, if this is the routine of a method in a class
-abbrev pub known_of : (p : Place) → (ℕ → Ident → ℕ) → Known (world_of p)
-known_of p routine = record {
+abbrev pub known_calls_of : (p : Place) → (ℕ → Ident → ℕ) → KnownCalls (world_of p)
+known_calls_of p routine = record {
   IsVariable = IsVariable p.setting.program;
   spot = spot_in p.setting.program;
   IsMethod = λ s name args. HasMethod p.setting.program s s.class name args;
-  slot = λ s name. slot_of p.setting.program s.class name;
+  slot = λ s name. method_slot_of p.setting.program s.class name;
   cell_of = cell_in p.setting p.statics;
   depth_of = λ u. 1 + length u.callers;
   self_of = λ u. u.self;
@@ -137,9 +137,9 @@ known_of p routine = record {
 abbrev pub receivers_of : (p : Place) → Receivers (world_of p)
 receivers_of p = record {
   IsReceiver = IsReceiver p.setting.program;
-  slot_on = λ s x name. slot_of p.setting.program (class_named p.setting.program s x) name;
+  slot_on = λ s x name. method_slot_of p.setting.program (class_number_named p.setting.program s x) name;
   deeper_on = deeper_on p;
-  IsFor = λ s x class. is_or_inherits p.setting.program class (class_named p.setting.program s x)
+  IsFor = λ s x class. is_or_inherits p.setting.program class (class_number_named p.setting.program s x)
       ≡ true;
 }
 

@@ -8,11 +8,11 @@ ghost use Rattle.refine_form.specs.paired_code.Code.{unmarked};
 ghost use Rattle.refine_form.specs.paired_code.Layout.{check_equal_cells, enter_at_cells};
 ghost use Rattle.refine_form.specs.paired_code.Rows.{line};
 ghost use Rattle.refine_form.specs.Cells.{around};
-ghost use Rattle.refine_form.specs.Held.{Holds};
+ghost use Rattle.refine_form.specs.Held.{HoldsCode};
 ghost use Rattle.refine_form.specs.code_conventions.Cells.{addi, exch};
 ghost use Rattle.refine_form.specs.code_conventions.declared.faults.TheConstants.{TOUCHED};
 ghost use Rattle.refine_form.specs.code_conventions.declared.registers.TheConstants.{MOVED, NOUGHT};
-ghost use Rattle.method_calls.specs.CallCode.{base_of, offset_of, above_row, take_code, move_code, end_row, depth_code, last_cells, save_row, method_code, main_row, main_cells, moves_of, own_cells};
+ghost use Rattle.method_calls.specs.CallCode.{base_of, offset_of, above_cells, take_code, move_code, end_row, depth_code, last_cells, save_row, method_code, main_row, main_cells, moves_of, own_cells};
 ghost use Rattle.method_calls.specs.Facts.{IsNear};
 ghost use Rattle.method_calls.specs.Laws.{MethodCode, MainCode, OwnCallCode};
 
@@ -94,7 +94,7 @@ pub(crate) fn above_piece(alloc: Global, word: u32, inner: Cell) -> Result<Piece
     requires word { word < 2 ^ 16 }
     requires single { IsTrue (is_single inner) }
     requires cell { IsCell inner }
-    ensures code { IfOk result (λ p. p ≡ unmarked (around (line (above_row word)) (line (inner ∷ [])))) }
+    ensures code { IfOk result (λ p. p ≡ unmarked (around (line (above_cells word)) (line (inner ∷ [])))) }
 {
     bare_around(
         alloc,
@@ -179,7 +179,7 @@ fn save_piece(alloc: Global) -> Result<Piece, NoMemory>
 #[tactic(auto, using(crate::proofs::Clauses::method_clause, crate::proofs::Clauses::method_length))]
 pub fn method_code(alloc: Global, body: Piece) -> Result<Piece, NoMemory>
     ensures law { IfOk result (λ p. MethodCode body.cells p.cells) }
-    ensures held { IfOk result (λ p. Holds body p) }
+    ensures held { IfOk result (λ p. HoldsCode body p) }
     ensures size { IfOk result (λ p. length p.cells ≡ length body.cells + 8) }
 {
     saved_piece(alloc, body)
@@ -187,7 +187,7 @@ pub fn method_code(alloc: Global, body: Piece) -> Result<Piece, NoMemory>
 
 fn saved_piece(alloc: Global, body: Piece) -> Result<Piece, NoMemory>
     ensures cells { IfOk result (λ p. p.cells ≡ method_code body.cells) }
-    ensures held { IfOk result (λ p. Holds body p) }
+    ensures held { IfOk result (λ p. HoldsCode body p) }
 {
     around(alloc, save_piece(alloc)?, body)
 }

@@ -2,7 +2,7 @@
 ghost use Rattle.std.specs.Prelude.{◌≡◌, ◌<◌, ◌^◌, ◌+◌, ◌++◌, [], length, IfOk};
 ghost use Rattle.refine_form.specs.paired_code.Code.{unmarked};
 ghost use Rattle.refine_form.specs.paired_code.Layout.{mirror_cells};
-ghost use Rattle.refine_form.specs.Held.{Holds};
+ghost use Rattle.refine_form.specs.Held.{HoldsCode};
 ghost use Rattle.method_calls.specs.CallCode.{store_code, local_open, local_code};
 ghost use Rattle.method_calls.specs.Laws.{LocalCode};
 
@@ -52,7 +52,7 @@ fn ended_piece(alloc: Global, word: u32, body: Piece, last: Piece) -> Result<Pie
     requires word { word < 2 ^ 16 }
     requires none { last.marks ≡ [] }
     ensures cells { IfOk result (λ p. p.cells ≡ body.cells ++ mirror_cells (local_open word last.cells)) }
-    ensures held { IfOk result (λ p. Holds body p) }
+    ensures held { IfOk result (λ p. HoldsCode body p) }
 {
     seq(body, close_piece(alloc, word, last)?)
 }
@@ -69,7 +69,7 @@ fn local_piece(
     requires value_none { value.marks ≡ [] }
     requires last_none { last.marks ≡ [] }
     ensures cells { IfOk result (λ p. p.cells ≡ local_code word value.cells body.cells last.cells) }
-    ensures held { IfOk result (λ p. Holds body p) }
+    ensures held { IfOk result (λ p. HoldsCode body p) }
 {
     seq(
         open_piece(alloc, word, value)?,
@@ -91,7 +91,7 @@ pub fn local_block(
     requires value_none { value.marks ≡ [] }
     requires last_none { last.marks ≡ [] }
     ensures law { IfOk result (λ p. LocalCode word value.cells body.cells last.cells p.cells) }
-    ensures held { IfOk result (λ p. Holds body p) }
+    ensures held { IfOk result (λ p. HoldsCode body p) }
     ensures size { IfOk result (λ p. length p.cells
         ≡ length value.cells + length body.cells + length last.cells + 12) }
 {

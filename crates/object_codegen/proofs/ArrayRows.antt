@@ -24,13 +24,13 @@ use Rattle.static_layout.specs.roopl_semantics.Value.{Cell, cell_named, read, va
 use Rattle.static_layout.specs.roopl_semantics.Execution.{Setting, Runner, statement, freed, NOT_NIL, COUNT}
 use Rattle.static_layout.specs.roopl_semantics.Execution.{NOT_EMPTY, HEAP_FULL, LENGTH_DIFFERS, LENGTH}
 use Rattle.expr_uncompute.specs.refine_form.declared.spot.Spot.{Spot}
-use Rattle.expr_uncompute.specs.refine_form.Form.{told, turned as facing}
+use Rattle.expr_uncompute.specs.refine_form.Form.{run_result, turned_statement as facing}
 use Rattle.expr_uncompute.specs.register_expressions.Code.{words}
 use Rattle.expr_uncompute.specs.Code.{place_words}
 use Rattle.expr_uncompute.specs.register_expressions.Number.{number, place_address}
 use Rattle.expr_uncompute.specs.Steps.{place_steps, fetch_steps}
 use Rattle.expr_uncompute.specs.register_expressions.Laws.{bases_of}
-use Rattle.expr_uncompute.specs.Laws.{Stays}
+use Rattle.expr_uncompute.specs.Laws.{UpdateStays}
 use Rattle.expr_uncompute.specs.Promises.{free_at}
 use Rattle.expr_uncompute.specs.Found.{LeavesWithin, leaves_within, TrapsWithin, found_value_steps}
 use Rattle.expr_uncompute.specs.Means.{shown, shown_result, cell_address, SameValues}
@@ -38,7 +38,7 @@ use Rattle.expr_uncompute.proofs.Bounds.{fetch_most, found_value_most, found_val
 use Rattle.expr_uncompute.proofs.Meaning.{number_is}
 use Rattle.object_codegen.specs.declared.shape.Shape.TheVariants.{Lengthy}
 use Rattle.refine_heap.specs.buddy_book.Book.{order_for}
-use Rattle.object_codegen.specs.News.{filled, whole_steps, Makes, ArrayLaw}
+use Rattle.object_codegen.specs.News.{filled_words, whole_steps, Makes, ArrayLaw}
 use Rattle.expr_uncompute.proofs.Rated.{rated, less, trap_meets, stop_meets}
 use Rattle.object_codegen.proofs.CopyRows.{Refers}
 use Rattle.object_codegen.proofs.MakeFacts.{length_at, count_at, is_empty, is_full, made, number_in, KeepsNames}
@@ -125,7 +125,7 @@ module _ (setting : Setting) (address slot : State → ℕ → ℕ) (R : State �
   -- a place and a length found in a state and in the one after it
   stay : (st st' : State) (m : Memory) (cells' : List ℕ) → R st m → R st' (record m { cells = cells' })
       → KeepsNames setting address slot R spot free object frame im st st' → SameValues setting.program st st' size
-      → Stays spot (bases_of m) (free_at free m) (Whole name) size m.cells cells'
+      → UpdateStays spot (bases_of m) (free_at free m) (Whole name) size m.cells cells'
   stay st st' m cells' r r' keeps same = record {
     place_sees = (facts.can st' (record m { cells = cells' }) r').first;
     value_sees = (facts.can st' (record m { cells = cells' }) r').second;
@@ -139,7 +139,7 @@ module _ (setting : Setting) (address slot : State → ℕ → ℕ) (R : State �
   module _ (st : State) (m : Memory) (v : Value) (r : R st m) (nv : value setting.program st size ≡ Ok v) where
     makes : Makes im m object frame (free_at free m) (place_words (Whole name) + words size)
         (found_value_steps (Whole name) size) (at st) (number_of v) (order_for (HEADER_WORDS + number_of v)) Lengthy
-        (Stays spot (bases_of m) (free_at free m) (Whole name) size m.cells) p
+        (UpdateStays spot (bases_of m) (free_at free m) (Whole name) size m.cells) p
     makes = law.makes im m object frame (at st) (number_of v) (facts.regs_are st m r) (facts.can st m r)
         (place_at_is st m r) (number_at st m r v nv) refl
 
@@ -155,7 +155,7 @@ module _ (setting : Setting) (address slot : State → ℕ → ℕ) (R : State �
 
     new_by : (w : Value) (below full : Bool) → read st (own st) ≡ w → is_less (number_of v) 1 ≡ below
         → is_full setting (number_of v) st ≡ full
-        → Will im p false m (Meets R rates n0 0 (told (sized_row size (own st) (Ok v)
+        → Will im p false m (Meets R rates n0 0 (run_result (sized_row size (own st) (Ok v)
         (λ v. new_end setting.limits.heap below full w (number_of v)
         (with_new setting head element (number_of v) (own st) st)))))
     new_by (Word x) below full e eb ef = absurd (subst (Refers (address st)) e (facts.refers st m r))
@@ -180,11 +180,11 @@ module _ (setting : Setting) (address slot : State → ℕ → ℕ) (R : State �
         (omega arith)
         (makes.news h.x (setting.limits.heap + 1) (most_steps setting.limits.heap + 7) h.taken
         (from_one_on (number_of v) (facts.is_word st m v r nv) eb) h.takes h.allocates
-        (stay st (with_new setting head element (number_of v) (own st) st) m (filled (at st) h.x (number_of v) h.taken)
+        (stay st (with_new setting head element (number_of v) (own st) st) m (filled_words (at st) h.x (number_of v) h.taken)
         r h.after h.keeps (facts.made_same st m v r nv e eb ef)))
 
     delete_by : (w : Value) → read st (own st) ≡ w → Will im p true m
-        (Meets R rates n0 0 (told (sized_row size (own st) (Ok v)
+        (Meets R rates n0 0 (run_result (sized_row size (own st) (Ok v)
         (λ v. delete_end setting head element st (own st) w (number_of v)))))
     delete_by (Word x) e = absurd (subst (Refers (address st)) e (facts.refers st m r))
     delete_by Nil e = fault_meets true 5 4 _ (omega arith) (omega arith) (makes.nil_faults (word_at Nil e))
@@ -199,7 +199,7 @@ module _ (setting : Setting) (address slot : State → ℕ → ℕ) (R : State �
 
         last : (same one empty : Bool) → nat_eq (length_at st array) (number_of v) ≡ same
             → nat_eq (count_at st array) 1 ≡ one → is_empty st array ≡ empty
-            → Will im p true m (Meets R rates n0 0 (told (sized_row size (own st) (Ok v)
+            → Will im p true m (Meets R rates n0 0 (run_result (sized_row size (own st) (Ok v)
             (λ v. fault_if NIL false >>= λ _. delete_last setting.limits.heap same one empty
             (length_at st array) (freed setting (own st) array st)))))
         last false one empty es eo ez =
@@ -243,7 +243,7 @@ module _ (setting : Setting) (address slot : State → ℕ → ℕ) (R : State �
             (facts.freed_same st m v array r nv e same one ez)) h.changes)
 
     ends_by : (d : Bool) → Will im p d m (Meets R rates n0 0
-        (told (sized_row size (own st) (Ok v) (λ v. end_of setting head element d st (own st) (read st (own st))
+        (run_result (sized_row size (own st) (Ok v) (λ v. end_of setting head element d st (own st) (read st (own st))
         (number_of v)))))
     ends_by false = new_by (read st (own st)) (is_less (number_of v) 1) (is_full setting (number_of v) st) refl refl
         refl
@@ -252,7 +252,7 @@ module _ (setting : Setting) (address slot : State → ℕ → ℕ) (R : State �
   -- a new along and a delete back, from any related memory
   pub array_meets : (d : Bool) (st : State) (m : Memory) → R st m → (rv : Result Value ℕ)
       → value setting.program st size ≡ rv → Will im p d m
-      (Meets R rates n0 0 (told (sized_row size (own st) rv
+      (Meets R rates n0 0 (run_result (sized_row size (own st) rv
       (λ v. end_of setting head element d st (own st) (read st (own st)) (number_of v)))))
   array_meets d st m r (Err c) nv =
       let one = fetch_most size in
@@ -280,10 +280,10 @@ module _ (setting : Setting) (address slot : State → ℕ → ℕ) (R : State �
     -- the fragment of a new does what the source says of it, and run backward what it says of its
     -- inverse
     pub new_ints_does : (d : Bool) (here n : ℕ) (run : Runner)
-        → Does im p d R R rates n0 0 (λ st. told (after_cost 1
+        → Does im p d R R rates n0 0 (λ st. run_result (after_cost 1
         (statement setting n run (facing d (New here (Ints size) (Whole name))) st)))
     new_ints_does d here n run = record {
-      does = λ st m h. subst (λ r. Will im p d m (Meets R rates n0 0 (told r))) (sym (ints_are d here n run st))
+      does = λ st m h. subst (λ r. Will im p d m (Meets R rates n0 0 (run_result r))) (sym (ints_are d here n run st))
           (array_meets setting address slot R spot free object frame im OfInts (Word 0) name size rates some many p law
           facts n0 d st m h (value setting.program st size) refl);
     }
@@ -295,11 +295,11 @@ module _ (setting : Setting) (address slot : State → ℕ → ℕ) (R : State �
 
     -- and its inverse that of a delete
     pub delete_ints_does : (d : Bool) (here n : ℕ) (run : Runner)
-        → Does im (mirror_cells p) d R R rates n0 0 (λ st. told
+        → Does im (mirror_cells p) d R R rates n0 0 (λ st. run_result
         (after_cost 1 (statement setting n run (facing d (Delete here (Ints size) (Whole name))) st)))
     delete_ints_does d here n run = record {
       does = λ st m h. will_mirror im p d m _ (subst (λ s. Will im p (not d) m
-          (Meets R rates n0 0 (told (after_cost 1 (statement setting n run s st))))) (sym (delete_ints_is d here))
+          (Meets R rates n0 0 (run_result (after_cost 1 (statement setting n run s st))))) (sym (delete_ints_is d here))
           ((new_ints_does (not d) here n run).does st m h));
     }
 
@@ -316,10 +316,10 @@ module _ (setting : Setting) (address slot : State → ℕ → ℕ) (R : State �
     objects_are true here n run st = refl
 
     pub new_objects_does : (d : Bool) (here n : ℕ) (run : Runner)
-        → Does im p d R R rates n0 0 (λ st. told (after_cost 1
+        → Does im p d R R rates n0 0 (λ st. run_result (after_cost 1
         (statement setting n run (facing d (New here (Objects class size) (Whole name))) st)))
     new_objects_does d here n run = record {
-      does = λ st m h. subst (λ r. Will im p d m (Meets R rates n0 0 (told r))) (sym (objects_are d here n run st))
+      does = λ st m h. subst (λ r. Will im p d m (Meets R rates n0 0 (run_result r))) (sym (objects_are d here n run st))
           (array_meets setting address slot R spot free object frame im (OfObjects (number_in setting class)) Nil name
           size rates some many p law facts n0 d st m h (value setting.program st size) refl);
     }
@@ -330,10 +330,10 @@ module _ (setting : Setting) (address slot : State → ℕ → ℕ) (R : State �
     delete_objects_is true here = refl
 
     pub delete_objects_does : (d : Bool) (here n : ℕ) (run : Runner)
-        → Does im (mirror_cells p) d R R rates n0 0 (λ st. told
+        → Does im (mirror_cells p) d R R rates n0 0 (λ st. run_result
         (after_cost 1 (statement setting n run (facing d (Delete here (Objects class size) (Whole name))) st)))
     delete_objects_does d here n run = record {
       does = λ st m h. will_mirror im p d m _ (subst (λ s. Will im p (not d) m
-          (Meets R rates n0 0 (told (after_cost 1 (statement setting n run s st)))))
+          (Meets R rates n0 0 (run_result (after_cost 1 (statement setting n run s st)))))
           (sym (delete_objects_is d here)) ((new_objects_does (not d) here n run).does st m h));
     }

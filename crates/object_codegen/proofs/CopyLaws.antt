@@ -5,7 +5,7 @@ use Rattle.std.specs.Prelude.{slice_index}
 use Rattle.rpp_tree.specs.Tree.{Lvalue}
 use Rattle.refine_heap.specs.pisa_isa.Machine.{Memory}
 use Rattle.refine_heap.specs.paired_code.declared.part.Symbol.{Symbol}
-use Rattle.refine_heap.specs.paired_code.Machine.{Image, reg}
+use Rattle.refine_heap.specs.paired_code.Machine.{Image, memory_reg}
 use Rattle.refine_heap.specs.paired_code.Layout.{mirror_cells}
 use Rattle.refine_heap.specs.paired_code.Pieces.{Done, Will}
 use Rattle.refine_heap.proofs.paired_code_laws.Laws.{will_of}
@@ -13,7 +13,7 @@ use Rattle.expr_uncompute.specs.refine_form.declared.spot.Spot.{Spot}
 use Rattle.expr_uncompute.specs.Code.{place_words}
 use Rattle.expr_uncompute.specs.register_expressions.Laws.{bases_of}
 use Rattle.expr_uncompute.specs.Promises.{free_at}
-use Rattle.expr_uncompute.specs.Found.{found, Filled, PlacesStay, PlacesAroundLaw, Encloses, LeavesWithin}
+use Rattle.expr_uncompute.specs.Found.{found_memory, Filled, PlacesStay, PlacesAroundLaw, Encloses, LeavesWithin}
 use Rattle.expr_uncompute.specs.Found.{leaves_within, TrapsWithin, found_places_steps}
 use Rattle.expr_uncompute.proofs.register_expressions_laws.Goes.{Traps, goes_to}
 use Rattle.expr_uncompute.proofs.register_expressions_laws.Scratch.{keeping, mem}
@@ -69,7 +69,7 @@ module _ (spot : List ℕ → Spot) (free : ℕ) (source target : Lvalue) (p : L
     abbrev room : ℕ
     room = place_words source + place_words target
 
-    found_is : (ys : List ℕ) → mem (bases_of m) (reg m) (keeping 0 a a') ys ≡ found 0 a a' ys m
+    found_is : (ys : List ℕ) → mem (bases_of m) (memory_reg m) (keeping 0 a a') ys ≡ found_memory 0 a a' ys m
     found_is ys = shown_as spot free m room at.can.ready 0 a a' ys
 
     encloses : (d : Bool) → Encloses im d m (free_at free m) (place_words source + place_words target)
@@ -98,10 +98,10 @@ module _ (spot : List ℕ → Spot) (free : ℕ) (source target : Lvalue) (p : L
         (λ ys ys' f f' ch.
         let e : ys' ≡ referring a' x (c + 1) ys = over_two (free_at free m) room m.cells ys f ys' a' x (x + 1) (c + 1)
         h.q_in h.count_in f' ch in
-        let g = copy_goes (bases_of m) (reg m) a a' (free_at free m) x c ys
+        let g = copy_goes (bases_of m) (memory_reg m) a a' (free_at free m) x c ys
         (copies_filled (free_at free m) room a a' x c m.cells ys f h) in
-        will_of im copy_mid false (found 0 a a' ys m) (Done (found 0 a a' ys' m) 42) _
-        ((goes_to refl (found_is ys) (ap (mem (bases_of m) (reg m) (keeping 0 a a')) (sym e) ∙ found_is ys')
+        will_of im copy_mid false (found_memory 0 a a' ys m) (Done (found_memory 0 a a' ys' m) 42) _
+        ((goes_to refl (found_is ys) (ap (mem (bases_of m) (memory_reg m) (keeping 0 a a')) (sym e) ∙ found_is ys')
         g).ahead im) (leaves_within 42 (omega arith) (omega arith)))
 
     pub uncopied_again : (x c : ℕ) → Shares (free_at free m) a a' x c m.cells
@@ -116,35 +116,35 @@ module _ (spot : List ℕ → Spot) (free : ℕ) (source target : Lvalue) (p : L
         let t = shares_filled (free_at free m) room a a' x c m.cells ys f h in
         let e : ys' ≡ unreferring a' x c ys = over_two (free_at free m) room m.cells ys f ys' a' 0 (x + 1) c h.q_in
         h.count_in f' ch in
-        let g = copy_goes (bases_of m) (reg m) a a' (free_at free m) x c (unreferring a' x c ys)
+        let g = copy_goes (bases_of m) (memory_reg m) a a' (free_at free m) x c (unreferring a' x c ys)
         (uncopied (free_at free m) a a' x c ys t) in
-        let back = ap (mem (bases_of m) (reg m) (keeping 0 a a')) (copied_again (free_at free m) a a' x c ys t)
+        let back = ap (mem (bases_of m) (memory_reg m) (keeping 0 a a')) (copied_again (free_at free m) a a' x c ys t)
         ∙ found_is ys in
-        will_of im copy_mid true (found 0 a a' ys m) (Done (found 0 a a' ys' m) 42) _
-        ((goes_to refl (ap (mem (bases_of m) (reg m) (keeping 0 a a')) (sym e) ∙ found_is ys') back g).back im)
+        will_of im copy_mid true (found_memory 0 a a' ys m) (Done (found_memory 0 a a' ys' m) 42) _
+        ((goes_to refl (ap (mem (bases_of m) (memory_reg m) (keeping 0 a a')) (sym e) ∙ found_is ys') back g).back im)
         (leaves_within 42 (omega arith) (omega arith)))
 
     -- ---- faults
 
     -- a check before the copy
-    before : (code n : ℕ) (ys : List ℕ) → Traps copy_checks n code (mem (bases_of m) (reg m) (keeping 0 a a') ys)
-        → Will im copy_mid false (found 0 a a' ys m) (TrapsWithin code n)
+    before : (code n : ℕ) (ys : List ℕ) → Traps copy_checks n code (mem (bases_of m) (memory_reg m) (keeping 0 a a') ys)
+        → Will im copy_mid false (found_memory 0 a a' ys m) (TrapsWithin code n)
     before code n ys t = subst (λ z. Will im copy_mid false z (TrapsWithin code n)) (found_is ys)
         (fault_ahead (copy_alter ++ mirror_cells uncopy_checks) t im)
 
     -- one before the inverse
-    behind : (code n : ℕ) (ys : List ℕ) → Traps uncopy_checks n code (mem (bases_of m) (reg m) (keeping 0 a a') ys)
-        → Will im copy_mid true (found 0 a a' ys m) (TrapsWithin code n)
+    behind : (code n : ℕ) (ys : List ℕ) → Traps uncopy_checks n code (mem (bases_of m) (memory_reg m) (keeping 0 a a') ys)
+        → Will im copy_mid true (found_memory 0 a a' ys m) (TrapsWithin code n)
     behind code n ys t = subst (λ z. Will im copy_mid true z (TrapsWithin code n)) (found_is ys)
         (fault_back copy_checks copy_alter t im)
 
     pub nil_fault_of : (d : Bool) → slice_index m.cells a ≡ 0
         → Will im p d m (TrapsWithin NIL (found_places_steps source target + 2))
     nil_fault_of false e = (encloses false).traps NIL 2 (λ ys f. before NIL 2 ys
-        (copy_nil (bases_of m) (reg m) a a' ys (let i = inside ys f in let l = a_low in omega arith)
+        (copy_nil (bases_of m) (memory_reg m) a a' ys (let i = inside ys f in let l = a_low in omega arith)
         (f.below a a_low ∙ e)))
     nil_fault_of true e = (encloses true).traps NIL 2 (λ ys f. behind NIL 2 ys
-        (uncopy_nil (bases_of m) (reg m) a a' ys (let i = inside ys f in let l = a_low in omega arith)
+        (uncopy_nil (bases_of m) (memory_reg m) a a' ys (let i = inside ys f in let l = a_low in omega arith)
         (f.below a a_low ∙ e)))
 
     pub not_nil_fault_of : (x : ℕ) → slice_index m.cells a ≡ x → x < 2 ^ 31 → x ≢ 0 → slice_index m.cells a' ≢ 0
@@ -154,7 +154,7 @@ module _ (spot : List ℕ → Spot) (free : ℕ) (source target : Lvalue) (p : L
         let i = inside ys f in
         let k = a_low in
         let k' = a'_low in
-        before NOT_NIL 6 ys (copy_not_nil (bases_of m) (reg m) a a' ys x (omega arith) (omega arith)
+        before NOT_NIL 6 ys (copy_not_nil (bases_of m) (memory_reg m) a a' ys x (omega arith) (omega arith)
         (f.below a a_low ∙ e) l
         n (λ z. n' (sym (f.below a' a'_low) ∙ z))))
 
@@ -165,7 +165,7 @@ module _ (spot : List ℕ → Spot) (free : ℕ) (source target : Lvalue) (p : L
         let i = inside ys f in
         let k = a_low in
         let k' = a'_low in
-        behind NOT_SAME 11 ys (uncopy_other (bases_of m) (reg m) a a' ys x y (omega arith) (omega arith)
+        behind NOT_SAME 11 ys (uncopy_other (bases_of m) (memory_reg m) a a' ys x y (omega arith) (omega arith)
         (f.below a a_low ∙ e)
         (f.below a' a'_low ∙ e') l n n'))
 
@@ -176,7 +176,7 @@ module _ (spot : List ℕ → Spot) (free : ℕ) (source target : Lvalue) (p : L
         let i = inside ys f in
         let k = a_low in
         let k' = a'_low in
-        behind NOT_SAME 19 ys (uncopy_one (bases_of m) (reg m) a a' ys x (omega arith) (omega arith)
+        behind NOT_SAME 19 ys (uncopy_one (bases_of m) (memory_reg m) a a' ys x (omega arith) (omega arith)
         (rw f.count at.can.ready.small) (f.below a a_low ∙ e) (ap (slice_index ys) (sym q) ∙ f.below a a_low ∙ e)
         l n q))
 

@@ -18,15 +18,15 @@ use Rattle.static_layout.specs.roopl_semantics.Run.{Run, after_cost, given, give
 use Rattle.static_layout.specs.roopl_semantics.Store.{Value, Word, Nil, Name, State, number_of, is_nil, same_value, object_at}
 use Rattle.static_layout.specs.roopl_semantics.Value.{Cell, read, written, cell_of, NIL}
 use Rattle.static_layout.specs.roopl_semantics.Elements.{index_elements, own_element, share_array, read_cost, SHARED_ARRAY}
-use Rattle.static_layout.specs.roopl_semantics.Execution.{Setting, Runner, statement, counted, one_less, same_cell, NOT_NIL}
+use Rattle.static_layout.specs.roopl_semantics.Execution.{Setting, Runner, statement, count_changed, one_less, same_cell, NOT_NIL}
 use Rattle.static_layout.specs.roopl_semantics.Execution.{NOT_SAME}
 use Rattle.expr_uncompute.specs.refine_form.declared.spot.Spot.{Spot}
-use Rattle.expr_uncompute.specs.refine_form.Form.{told, turned as facing}
+use Rattle.expr_uncompute.specs.refine_form.Form.{run_result, turned_statement as facing}
 use Rattle.expr_uncompute.specs.Code.{place_words}
 use Rattle.expr_uncompute.specs.register_expressions.Number.{place_address, lvalue_read, index_of, shares}
 use Rattle.expr_uncompute.specs.Steps.{place_steps}
 use Rattle.expr_uncompute.specs.register_expressions.Laws.{bases_of}
-use Rattle.expr_uncompute.specs.Promises.{free_at, CanRun}
+use Rattle.expr_uncompute.specs.Promises.{free_at, CanEvaluate}
 use Rattle.expr_uncompute.specs.Found.{LeavesWithin, leaves_within, TrapsWithin, PlacesStay, found_places_steps}
 use Rattle.expr_uncompute.specs.Means.{shown, cell_address, cell_result, MeansPlace, TellsShares, SameCells}
 use Rattle.expr_uncompute.proofs.Bounds.{place_less, found_places_most, found_places_least}
@@ -48,12 +48,12 @@ Refers address (Name n) = address n ≢ 0
 
 abbrev copy_end : State → Cell → Value → Value → Run State
 copy_end st b x y = fault_if NIL (is_nil x) >>= λ _.
-    (fault_if NOT_NIL (not (is_nil y)) >>= λ _. give (counted suc (written st b x) (number_of x)))
+    (fault_if NOT_NIL (not (is_nil y)) >>= λ _. give (count_changed suc (written st b x) (number_of x)))
 
 abbrev uncopy_end : State → (a b : Cell) → Value → Value → Run State
 uncopy_end st a b x y = fault_if NIL (is_nil x) >>= λ _.
     (fault_if NOT_SAME (not (same_value x y) || same_cell a b) >>= λ _. give
-    (counted one_less (written st b Nil) (number_of x)))
+    (count_changed one_less (written st b Nil) (number_of x)))
 
 abbrev end_of : Bool → State → (a b : Cell) → Value → Value → Run State
 end_of false st a b x y = copy_end st b x y
@@ -75,10 +75,10 @@ module _ (setting : Setting) (address slot : State → ℕ → ℕ) (R : State �
   count_of st n = (object_at st.store n).count
 
   abbrev after_copy : State → Cell → ℕ → State
-  after_copy st b n = counted suc (written st b (Name n)) n
+  after_copy st b n = count_changed suc (written st b (Name n)) n
 
   abbrev after_uncopy : State → Cell → ℕ → State
-  after_uncopy st b n = counted one_less (written st b Nil) n
+  after_uncopy st b n = count_changed one_less (written st b Nil) n
 
   abbrev sharing : State → Bool
   sharing st = share_array setting.program st (own_element target) (index_elements source ++ index_elements target)
@@ -105,7 +105,7 @@ module _ (setting : Setting) (address slot : State → ℕ → ℕ) (R : State �
 
   -- what a copy and its inverse need of the relation
   pub record CopyFacts : Type 0 where
-    pub can : (st : State) (m : Memory) → R st m → CanRun spot free (place_words source + place_words target)
+    pub can : (st : State) (m : Memory) → R st m → CanEvaluate spot free (place_words source + place_words target)
         (lvalue_read source) (lvalue_read target) m
     pub source_means : (st : State) (m : Memory) → R st m
         → MeansPlace (address st) (slot st) setting.program st spot (bases_of m) m.cells source
@@ -244,7 +244,7 @@ module _ (setting : Setting) (address slot : State → ℕ → ℕ) (R : State �
           stop_meets R rates 370 many im p n0 d m code c (found_places_steps source target + extra) (omega arith) t
 
       copy_by : (x y : Value) → read st a ≡ x → read st b ≡ y → sharing st ≡ false
-          → Will im p false m (Meets R rates n0 0 (told (pair_row source target (Ok a) (Ok b)
+          → Will im p false m (Meets R rates n0 0 (run_result (pair_row source target (Ok a) (Ok b)
           (λ a b. kept_by reads false (copy_end st b x y)))))
       copy_by (Word w) y ea eb sh = absurd (subst (Refers (address st)) ea (facts.source_refers st m a r na))
       copy_by Nil y ea eb sh = fault_meets false 5 2 _ (omega arith) (omega arith)
@@ -280,7 +280,7 @@ module _ (setting : Setting) (address slot : State → ℕ → ℕ) (R : State �
 
       names_by : (n n' : ℕ) (t u : Bool) → nat_eq n n' ≡ t → same_cell a b ≡ u → read st a ≡ Name n
           → read st b ≡ Name n' → sharing st ≡ false
-          → Will im p true m (Meets R rates n0 0 (told (pair_row source target (Ok a) (Ok b)
+          → Will im p true m (Meets R rates n0 0 (run_result (pair_row source target (Ok a) (Ok b)
           (λ a b. kept_by reads false (fault_if NIL false >>= λ _.
           (fault_if NOT_SAME (not t || u) >>= λ _. give (after_uncopy st b n)))))))
       names_by n n' false u et eu ea eb sh =
@@ -322,7 +322,7 @@ module _ (setting : Setting) (address slot : State → ℕ → ℕ) (R : State �
           (stay (after_uncopy st b n) _ h.0 h.1))
 
       uncopy_by : (x y : Value) → read st a ≡ x → read st b ≡ y → sharing st ≡ false
-          → Will im p true m (Meets R rates n0 0 (told (pair_row source target (Ok a) (Ok b)
+          → Will im p true m (Meets R rates n0 0 (run_result (pair_row source target (Ok a) (Ok b)
           (λ a b. kept_by reads false (uncopy_end st a b x y)))))
       uncopy_by (Word w) y ea eb sh = absurd (subst (Refers (address st)) ea (facts.source_refers st m a r na))
       uncopy_by Nil y ea eb sh = fault_meets true 5 2 _ (omega arith) (omega arith)
@@ -337,7 +337,7 @@ module _ (setting : Setting) (address slot : State → ℕ → ℕ) (R : State �
 
       -- if no array is shared, or one is
       ends_by : (d shared : Bool) → sharing st ≡ shared → Will im p d m
-          (Meets R rates n0 0 (told (pair_row source target (Ok a) (Ok b)
+          (Meets R rates n0 0 (run_result (pair_row source target (Ok a) (Ok b)
           (λ a b. kept_by reads shared (end_of d st a b (read st a) (read st b))))))
       ends_by false false e = copy_by (read st a) (read st b) refl refl e
       ends_by true false e = uncopy_by (read st a) (read st b) refl refl e
@@ -349,7 +349,7 @@ module _ (setting : Setting) (address slot : State → ℕ → ℕ) (R : State �
 
     pair_meets : (d : Bool) (st : State) (m : Memory) → R st m → (rx ry : Result Cell ℕ)
         → cell_of setting.program st source ≡ rx → cell_of setting.program st target ≡ ry
-        → Will im p d m (Meets R rates n0 0 (told (pair_row source target rx ry
+        → Will im p d m (Meets R rates n0 0 (run_result (pair_row source target rx ry
         (λ a b. kept_by reads (sharing st) (end_of d st a b (read st a) (read st b))))))
     pair_meets d st m r (Err c) ry nx ny =
         let one = place_less source in
@@ -373,10 +373,10 @@ module _ (setting : Setting) (address slot : State → ℕ → ℕ) (R : State �
     -- the fragment of a copy does what the source says of it, and run backward what it says of its
     -- inverse
     pub copy_does : (d : Bool) (here n : ℕ) (kind : VarType) (run : Runner)
-        → Does im p d R R rates n0 0 (λ st. told (after_cost 1
+        → Does im p d R R rates n0 0 (λ st. run_result (after_cost 1
         (statement setting n run (facing d (Copy here kind source target)) st)))
     copy_does d here n kind run = record {
-      does = λ st m h. subst (λ r. Will im p d m (Meets R rates n0 0 (told r))) (sym (copy_is d here n kind run st))
+      does = λ st m h. subst (λ r. Will im p d m (Meets R rates n0 0 (run_result r))) (sym (copy_is d here n kind run st))
           (pair_meets d st m h (cell_of setting.program st source) (cell_of setting.program st target) refl refl);
     }
 
@@ -387,10 +387,10 @@ module _ (setting : Setting) (address slot : State → ℕ → ℕ) (R : State �
 
     -- and its inverse that of an uncopy
     pub uncopy_does : (d : Bool) (here n : ℕ) (kind : VarType) (run : Runner)
-        → Does im (mirror_cells p) d R R rates n0 0 (λ st. told
+        → Does im (mirror_cells p) d R R rates n0 0 (λ st. run_result
         (after_cost 1 (statement setting n run (facing d (Uncopy here kind source target)) st)))
     uncopy_does d here n kind run = record {
       does = λ st m h. will_mirror im p d m _ (subst (λ s. Will im p (not d) m
-          (Meets R rates n0 0 (told (after_cost 1 (statement setting n run s st))))) (sym (uncopy_is d here kind))
+          (Meets R rates n0 0 (run_result (after_cost 1 (statement setting n run s st))))) (sym (uncopy_is d here kind))
           ((copy_does (not d) here n kind run).does st m h));
     }

@@ -21,7 +21,7 @@ use Rattle.expr_uncompute.proofs.register_expressions_laws.Scratch.{keeping, mem
 use Rattle.object_codegen.specs.declared.news.TheConstants.{FEW_FIELDS}
 use Rattle.object_codegen.specs.declared.shape.Shape.{Shape}
 use Rattle.object_codegen.specs.declared.shape.Shape.TheVariants.{Fixed, Lengthy}
-use Rattle.object_codegen.specs.Code.{mark_cell, mark_fault, mark_of, size_of, grow_cell, load_cells, some_reference}
+use Rattle.object_codegen.specs.Code.{mark_cell, mark_fault, mark_of, block_size_of, grow_cell, load_cells, some_reference}
 use Rattle.object_codegen.specs.Code.{same_mark, single, ends_cells, walked_cells, field_cells, fields_cells}
 use Rattle.object_codegen.specs.Code.{zeros_cells, delete_checks}
 use Rattle.object_codegen.specs.News.{IsShape, zeros_steps}
@@ -102,13 +102,13 @@ module _ (b : Bases) (f : ℕ → ℕ) (v p x : ℕ) (shape : Shape) (zs : List 
 
     -- ---- 7
 
-    module _ (n : ℕ) (n_is : size_of v shape ≡ n) (within : x + HEADER_WORDS + n ≤ length zs)
+    module _ (n : ℕ) (n_is : block_size_of v shape ≡ n) (within : x + HEADER_WORDS + n ≤ length zs)
         (ends : x + HEADER_WORDS + n < 2 ^ 31) where
       -- the end and the word
       abbrev walked : (l r o w : ℕ) → Memory
       walked l r o w = mem b f (record (keeping v p 0) { left = l; right = r; outcome = o; content = 0; first = w }) zs
 
-      grows : (s : Shape) → IsShape s → size_of v s ≡ n → (l : ℕ)
+      grows : (s : Shape) → IsShape s → block_size_of v s ≡ n → (l : ℕ)
           → Goes (grow_cell RIGHT_TRUTH s ∷ []) 1 (walked l (x + HEADER_WORDS) 0 (x + HEADER_WORDS))
           (walked l (x + HEADER_WORDS + n) 0 (x + HEADER_WORDS))
       grows (Fixed table fields) h e l = goes_to refl refl
@@ -123,7 +123,7 @@ module _ (b : Bases) (f : ℕ → ℕ) (v p x : ℕ) (shape : Shape) (zs : List 
           (let k = e in omega arith) refl
           (omega arith) (λ z. refl) (λ z. refl))
 
-      steps_on : (s : Shape) → IsShape s → size_of v s ≡ n → (l r : ℕ)
+      steps_on : (s : Shape) → IsShape s → block_size_of v s ≡ n → (l r : ℕ)
           → Goes (grow_cell FIRST_WORD s ∷ []) 1 (walked l r 0 (x + HEADER_WORDS)) (walked l r 0 (x + HEADER_WORDS + n))
       steps_on (Fixed table fields) h e l r = goes_to refl refl (ap (λ z. walked l r 0 (x + HEADER_WORDS + z)) e)
           (goes_addi _ (λ z. walked l r 0 z) (x + HEADER_WORDS) fields (let k = e in omega arith) refl h.1 (λ z. refl)
@@ -134,7 +134,7 @@ module _ (b : Bases) (f : ℕ → ℕ) (v p x : ℕ) (shape : Shape) (zs : List 
           (omega arith)
           (let k = e in omega arith) refl (omega arith) (λ z. refl) (λ z. refl))
 
-      ends_go : (s : Shape) → IsShape s → size_of v s ≡ n → Goes (ends_cells s) 4 (here 0 0 x zs)
+      ends_go : (s : Shape) → IsShape s → block_size_of v s ≡ n → Goes (ends_cells s) 4 (here 0 0 x zs)
           (walked (x + HEADER_WORDS) (x + HEADER_WORDS + n) 0 (x + HEADER_WORDS))
       ends_go s h e =
           goes_cons (goes_addi _ (λ z. walked 0 0 0 z) x HEADER_WORDS (omega arith) refl (omega arith) (λ z. refl)
@@ -154,7 +154,7 @@ module _ (b : Bases) (f : ℕ → ℕ) (v p x : ℕ) (shape : Shape) (zs : List 
       abbrev AreZero : ℕ → Type 0
       AreZero k = (a : ℕ) → x + HEADER_WORDS ≤ a → a < x + HEADER_WORDS + k → slice_index zs a ≡ 0
 
-      walked_pass : (s : Shape) → IsShape s → size_of v s ≡ n → AreZero n
+      walked_pass : (s : Shape) → IsShape s → block_size_of v s ≡ n → AreZero n
           → Goes (walked_cells s) (19 + 13 * n) (here 0 0 x zs) (here 0 0 x zs)
       walked_pass s h e z =
           goes_to (omega arith) refl refl (goes_around (ends_go s h e)
@@ -163,7 +163,7 @@ module _ (b : Bases) (f : ℕ → ℕ) (v p x : ℕ) (shape : Shape) (zs : List 
           within z n refl) (flag_goes (x + HEADER_WORDS + n))) (goes_mirror
           (steps_on s h e (x + HEADER_WORDS) (x + HEADER_WORDS + n)))) (ends_go s h e))
 
-      walked_traps : (s : Shape) → IsShape s → size_of v s ≡ n → (j : ℕ) → x + HEADER_WORDS ≤ j
+      walked_traps : (s : Shape) → IsShape s → block_size_of v s ≡ n → (j : ℕ) → x + HEADER_WORDS ≤ j
           → j < x + HEADER_WORDS + n → slice_index zs j ≢ 0 → Traps (walked_cells s) (8 + 13 * n) 7 (here 0 0 x zs)
       walked_traps s h e j lo hi nz =
           traps_more (omega arith) (traps_mid (ends_go s h e)
@@ -217,7 +217,7 @@ module _ (b : Bases) (f : ℕ → ℕ) (v p x : ℕ) (shape : Shape) (zs : List 
       fields_traps j lo hi nz = ⊎_elim (λ z. absurd (nz (z j lo hi))) (λ t. t) (fields_tried n (omega arith))
 
       -- by the shape
-      zeros_pass : (s : Shape) → IsShape s → size_of v s ≡ n → AreZero n
+      zeros_pass : (s : Shape) → IsShape s → block_size_of v s ≡ n → AreZero n
           → Goes (zeros_cells s) (zeros_steps s n) (here 0 0 x zs) (here 0 0 x zs)
       zeros_pass (Fixed table fields) h e z = by_count (nat_le fields FEW_FIELDS)
         where
@@ -228,7 +228,7 @@ module _ (b : Bases) (f : ℕ → ℕ) (v p x : ℕ) (shape : Shape) (zs : List 
           by_count false = walked_pass (Fixed table fields) h e z
       zeros_pass Lengthy h e z = walked_pass Lengthy h e z
 
-      zeros_trap : (s : Shape) → IsShape s → size_of v s ≡ n → (j : ℕ) → x + HEADER_WORDS ≤ j
+      zeros_trap : (s : Shape) → IsShape s → block_size_of v s ≡ n → (j : ℕ) → x + HEADER_WORDS ≤ j
           → j < x + HEADER_WORDS + n → slice_index zs j ≢ 0 → Traps (zeros_cells s) (8 + 13 * n) 7 (here 0 0 x zs)
       zeros_trap (Fixed table fields) h e j lo hi nz = by_count (nat_le fields FEW_FIELDS)
         where

@@ -21,7 +21,7 @@ use Rattle.object_codegen.specs.declared.shape.Shape.{Shape}
 use Rattle.object_codegen.specs.declared.shape.Shape.TheVariants.{Fixed, Lengthy}
 use Rattle.object_codegen.specs.Code.{mark_cell, mark_of, block, move_cells, fill_cells, new_alter}
 use Rattle.object_codegen.specs.News
-use Rattle.object_codegen.specs.News.{filled, IsShape, move_steps, left_length, moved_length}
+use Rattle.object_codegen.specs.News.{filled_words, IsShape, move_steps, left_length, moved_length}
 use Rattle.object_codegen.proofs.Leading.{Leads, goes_leads, leads_seq, leads_around, falls_first, goes_falls}
 use Rattle.refine_heap.specs.code_conventions.declared.faults.TheConstants.{HEAP_FULL}
 
@@ -81,7 +81,7 @@ module _ (b : Bases) (p v : ℕ) where
         (λ z. refl)
     fill_mark Lengthy h = goes_set _ (λ z. room b z 0 0 o x p v 0 0 zt) v refl (omega arith) (λ z. refl) (λ z. refl)
 
-    fill_goes : Goes (fill_cells shape) 7 (filling 0 x zt) (filling 0 0 (filled p x (mark_of v shape) zt))
+    fill_goes : Goes (fill_cells shape) 7 (filling 0 x zt) (filling 0 0 (filled_words p x (mark_of v shape) zt))
     fill_goes =
         let i = blank.x_in in
         let small = blank.small in
@@ -107,7 +107,7 @@ module _ (b : Bases) (p v : ℕ) where
         count_is) (goes_exch _ (λ z zs. filling z (x + 1) zs) (x + 1) 1 (slice_set zt x (mark_of v shape))
         (omega arith) refl (omega arith) (λ z zs. refl) (λ z zs. refl))))
         (up (slice_set (slice_set zt x (mark_of v shape)) (x + 1) 1)))
-        (goes_to refl refl (ap (λ z. filling 0 z (filled p x (mark_of v shape) zt)) nil_is)
+        (goes_to refl refl (ap (λ z. filling 0 z (filled_words p x (mark_of v shape) zt)) nil_is)
         (goes_exch _ (λ z zs. filling 0 z zs) p x (slice_set (slice_set zt x (mark_of v shape)) (x + 1) 1)
         (let h = blank.p_in in omega arith) refl (omega arith) (λ z zs. refl) (λ z zs. refl)))))
 
@@ -117,10 +117,10 @@ module _ (b : Bases) (p v : ℕ) where
         → Called im b lo hi o x p v shape zs zt
         → Leads im (new_alter shape orders) ((move_steps shape + n) + ((lo + 7) + (move_steps shape + n)))
         ((move_steps shape + n) + ((hi + 7) + (move_steps shape + n))) (mem b nothing_else (keeping v p 0) zs)
-        (mem b nothing_else (keeping v p 0) (filled p x (mark_of v shape) zt))
+        (mem b nothing_else (keeping v p 0) (filled_words p x (mark_of v shape) zt))
     alter_leads im lo hi n orders zs found alloc =
         leads_around (goes_seq (moves_go shape zs) (found zs)) (leads_seq alloc.leads (goes_leads im fill_goes))
-        (goes_seq (moves_go shape (filled p x (mark_of v shape) zt)) (found (filled p x (mark_of v shape) zt)))
+        (goes_seq (moves_go shape (filled_words p x (mark_of v shape) zt)) (found (filled_words p x (mark_of v shape) zt)))
 
   -- or there is no block
   pub alter_falls : (im : Image) (o hi n : ℕ) (shape : Shape) (orders : List Symbol) (zs : List ℕ)

@@ -5,7 +5,7 @@ use Rattle.refine_heap.specs.pisa_isa.Machine.{Memory}
 use Rattle.refine_heap.specs.paired_code.declared.part.Symbol.{Symbol}
 use Rattle.refine_heap.specs.paired_code.Machine.{Image}
 use Rattle.refine_heap.specs.paired_code.Layout.{mirror_cells}
-use Rattle.refine_heap.specs.paired_code.Pieces.{Outcome, Trapped, Will, after}
+use Rattle.refine_heap.specs.paired_code.Pieces.{Outcome, Trapped, Will, outcome_after}
 use Rattle.refine_heap.proofs.paired_code_laws.Laws.{Next, will_of, will_more, will_seq, will_seq_back}
 use Rattle.refine_heap.proofs.paired_code_laws.Mirrored.{will_mirror}
 use Rattle.expr_uncompute.specs.register_expressions.Code.{around}
@@ -23,19 +23,19 @@ goes_leads {p = p} {k = k} {m = m} {m' = m'} im g = record {
 }
 
 later : (m2 : Memory) (a b c d j : ℕ) (o : Outcome) → a ≤ j → j ≤ b → LeavesWithin m2 c d o
-    → LeavesWithin m2 (a + c) (b + d) (after j o)
+    → LeavesWithin m2 (a + c) (b + d) (outcome_after j o)
 later m2 a b c d j _ l h (leaves_within k lo hi) = leaves_within (j + k) (omega arith) (omega arith)
 
 joined_ahead : {im : Image} {q : List Symbol} {m1 m2 : Memory} {a b c d : ℕ} (o : Outcome)
     → Will im q false m1 (LeavesWithin m2 c d) → LeavesWithin m1 a b o
-    → Next (λ m k. Will im q false m (λ o. LeavesWithin m2 (a + c) (b + d) (after k o)))
+    → Next (λ m k. Will im q false m (λ o. LeavesWithin m2 (a + c) (b + d) (outcome_after k o)))
     (LeavesWithin m2 (a + c) (b + d)) o
 joined_ahead {im = im} {q = q} {m1 = m1} {m2 = m2} {a = a} {b = b} {c = c} {d = d} _ w (leaves_within k lo hi) =
     will_more im q false m1 _ _ (λ o r. later m2 a b c d k o lo hi r) w
 
 joined_back : {im : Image} {q : List Symbol} {m1 m2 : Memory} {a b c d : ℕ} (o : Outcome)
     → Will im q true m1 (LeavesWithin m2 c d) → LeavesWithin m1 a b o
-    → Next (λ m k. Will im q true m (λ o. LeavesWithin m2 (a + c) (b + d) (after k o)))
+    → Next (λ m k. Will im q true m (λ o. LeavesWithin m2 (a + c) (b + d) (outcome_after k o)))
     (LeavesWithin m2 (a + c) (b + d)) o
 joined_back {im = im} {q = q} {m1 = m1} {m2 = m2} {a = a} {b = b} {c = c} {d = d} _ w (leaves_within k lo hi) =
     will_more im q true m1 _ _ (λ o r. later m2 a b c d k o lo hi r) w
@@ -70,7 +70,7 @@ falls_first {im = im} {p = p} {code = code} {hi = hi} {m = m} q w =
     will_seq im p q m _ (will_more im p false m _ _ over w)
   where
     over : (o : Outcome) → TrapsWithin code hi o → Next (λ m1 k. Will im q false m1
-        (λ o. TrapsWithin code hi (after k o))) (TrapsWithin code hi) o
+        (λ o. TrapsWithin code hi (outcome_after k o))) (TrapsWithin code hi) o
     over _ (traps_within k l) = traps_within k l
 
 pub goes_falls : {im : Image} {p q : List Symbol} {j code hi : ℕ} {m m1 : Memory} → Goes p j m m1
@@ -78,7 +78,7 @@ pub goes_falls : {im : Image} {p q : List Symbol} {j code hi : ℕ} {m m1 : Memo
 goes_falls {im = im} {p = p} {q = q} {j = j} {code = code} {hi = hi} {m = m} {m1 = m1} g w =
     will_seq im p q m _ (will_of im p false m _ _ (g.ahead im) (will_more im q false m1 _ _ more w))
   where
-    more : (o : Outcome) → TrapsWithin code hi o → TrapsWithin code (j + hi) (after j o)
+    more : (o : Outcome) → TrapsWithin code hi o → TrapsWithin code (j + hi) (outcome_after j o)
     more _ (traps_within k l) = traps_within (j + k) (omega arith)
 
 -- ---- the checks of a statement and of its inverse
@@ -89,7 +89,7 @@ falls_last {im = im} {q = q} {code = code} {hi = hi} {m = m} p w =
     will_seq_back im p q m _ (will_more im q true m _ _ over w)
   where
     over : (o : Outcome) → TrapsWithin code hi o → Next (λ m1 k. Will im p true m1
-        (λ o. TrapsWithin code hi (after k o))) (TrapsWithin code hi) o
+        (λ o. TrapsWithin code hi (outcome_after k o))) (TrapsWithin code hi) o
     over _ (traps_within k l) = traps_within k l
 
 pub traps_falls : {p : List Symbol} {code n : ℕ} {m : Memory} (im : Image) → Traps p n code m

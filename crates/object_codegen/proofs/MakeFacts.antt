@@ -21,13 +21,13 @@ use Rattle.expr_uncompute.specs.register_expressions.Code.{words}
 use Rattle.expr_uncompute.specs.Code.{place_words}
 use Rattle.expr_uncompute.specs.register_expressions.Number.{lvalue_read, index_of}
 use Rattle.expr_uncompute.specs.register_expressions.Laws.{bases_of}
-use Rattle.expr_uncompute.specs.Promises.{free_at, CanRun}
+use Rattle.expr_uncompute.specs.Promises.{free_at, CanEvaluate}
 use Rattle.expr_uncompute.specs.Found.{Changes}
 use Rattle.expr_uncompute.specs.Means.{shown, cell_address, Means, MeansPlace, TellsShares, SameValues, SameCells}
 use Rattle.object_codegen.specs.declared.shape.Shape.{Shape}
 use Rattle.object_codegen.specs.declared.shape.Shape.TheVariants.{Fixed, Lengthy}
-use Rattle.object_codegen.specs.Code.{mark_of, size_of}
-use Rattle.object_codegen.specs.News.{Allocates, Lacks, Takes, filled}
+use Rattle.object_codegen.specs.Code.{mark_of, block_size_of}
+use Rattle.object_codegen.specs.News.{Allocates, Lacks, Takes, filled_words}
 use Rattle.object_codegen.proofs.CopyRows.{Refers}
 
 -- ---- the source's words
@@ -92,18 +92,18 @@ module _ (setting : Setting) (address slot : State → ℕ → ℕ) (R : State �
   pub record TakesBlock (st st' : State) (m : Memory) (p v order n : ℕ) (shape : Shape) : Type 0 where
     pub x : ℕ
     pub taken : List ℕ
-    pub takes : Takes (free_at free m) (size_of v shape) p x m.cells taken
+    pub takes : Takes (free_at free m) (block_size_of v shape) p x m.cells taken
     pub allocates : Allocates im object frame order x p v shape (free_at free m) n (setting.limits.heap + 1)
         (most_steps setting.limits.heap + 7) m.cells taken
-    pub after : R st' (record m { cells = filled p x (mark_of v shape) taken })
+    pub after : R st' (record m { cells = filled_words p x (mark_of v shape) taken })
     pub keeps : KeepsNames st st'
 
   -- the block at x can be given back: st' is the state without the object or array
   pub record GivesBlock (st st' : State) (m : Memory) (p x v order n : ℕ) (shape : Shape) : Type 0 where
     pub given : List ℕ
     pub taken : List ℕ
-    pub was : m.cells ≡ filled p x (mark_of v shape) taken
-    pub takes : Takes (free_at free m) (size_of v shape) p x given taken
+    pub was : m.cells ≡ filled_words p x (mark_of v shape) taken
+    pub takes : Takes (free_at free m) (block_size_of v shape) p x given taken
     pub allocates : Allocates im object frame order x p v shape (free_at free m) n (setting.limits.heap + 1)
         (most_steps setting.limits.heap + 7) given taken
     pub changes : Changes (free_at free m) m.cells given
@@ -129,7 +129,7 @@ module _ (setting : Setting) (address slot : State → ℕ → ℕ) (R : State �
 
     pub record ObjectFacts : Type 0 where
       pub regs_are : (st : State) (m : Memory) → R st m → m.regs ≡ registers 0 object frame 0 0 0 0 0
-      pub can : (st : State) (m : Memory) → R st m → CanRun spot free (place_words target) (lvalue_read target) (Null 0) m
+      pub can : (st : State) (m : Memory) → R st m → CanEvaluate spot free (place_words target) (lvalue_read target) (Null 0) m
       pub means : (st : State) (m : Memory) → R st m → MeansPlace (address st) (slot st) setting.program st spot
           (bases_of m) m.cells target
       pub tells : (st : State) (m : Memory) → R st m → TellsShares (address st) (slot st) setting.program st spot
@@ -178,7 +178,7 @@ module _ (setting : Setting) (address slot : State → ℕ → ℕ) (R : State �
 
     pub record ArrayFacts : Type 0 where
       pub regs_are : (st : State) (m : Memory) → R st m → m.regs ≡ registers 0 object frame 0 0 0 0 0
-      pub can : (st : State) (m : Memory) → R st m → CanRun spot free (place_words (Whole name) + words size)
+      pub can : (st : State) (m : Memory) → R st m → CanEvaluate spot free (place_words (Whole name) + words size)
           (lvalue_read (Whole name)) size m
       pub means : (st : State) (m : Memory) → R st m → MeansPlace (address st) (slot st) setting.program st spot
           (bases_of m) m.cells (Whole name)

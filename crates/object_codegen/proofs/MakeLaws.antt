@@ -15,17 +15,17 @@ use Rattle.expr_uncompute.specs.register_expressions.Code.{words, xori}
 use Rattle.expr_uncompute.specs.Code.{place_words}
 use Rattle.expr_uncompute.specs.register_expressions.Number.{Bases}
 use Rattle.expr_uncompute.specs.register_expressions.Laws.{bases_of}
-use Rattle.expr_uncompute.specs.Laws.{Stays}
+use Rattle.expr_uncompute.specs.Laws.{UpdateStays}
 use Rattle.expr_uncompute.specs.Promises.{free_at}
-use Rattle.expr_uncompute.specs.Found.{found, Filled, Changes, Encloses, PlaceAroundLaw, ValueAroundLaw, LeavesWithin}
+use Rattle.expr_uncompute.specs.Found.{found_memory, Filled, Changes, Encloses, PlaceAroundLaw, ValueAroundLaw, LeavesWithin}
 use Rattle.expr_uncompute.specs.Found.{TrapsWithin, found_place_steps, found_value_steps}
 use Rattle.expr_uncompute.proofs.register_expressions_laws.Goes.{Goes, goes_set}
 use Rattle.expr_uncompute.proofs.register_expressions_laws.Scratch.{keeping, mem}
 use Rattle.expr_uncompute.proofs.Updates.{place_low}
 use Rattle.object_codegen.specs.declared.shape.Shape.{Shape}
 use Rattle.object_codegen.specs.declared.shape.Shape.TheVariants.{Fixed, Lengthy}
-use Rattle.object_codegen.specs.Code.{order, order_cells, new_mid, mark_of, mark_fault, size_of}
-use Rattle.object_codegen.specs.News.{Allocates, Lacks, Takes, filled, IsShape, IsLength, check_steps, move_steps}
+use Rattle.object_codegen.specs.Code.{order, order_cells, new_mid, mark_of, mark_fault, block_size_of}
+use Rattle.object_codegen.specs.News.{Allocates, Lacks, Takes, filled_words, IsShape, IsLength, check_steps, move_steps}
 use Rattle.object_codegen.specs.News.{order_steps, middle_steps, Makes, ObjectLaw, ArrayLaw}
 use Rattle.object_codegen.proofs.Leading.{Leads}
 use Rattle.object_codegen.proofs.Filling.{nothing_else, calling}
@@ -43,8 +43,8 @@ mark_word v Lengthy s l = let h = l.0 in omega arith
 
 -- a place and a length in their registers, all others 0
 found_is : (m : Memory) (object frame v a : ℕ) (ys : List ℕ) → m.regs ≡ registers 0 object frame 0 0 0 0 0
-    → mem (record { object = object; frame = frame }) nothing_else (keeping v a 0) ys ≡ found v a 0 ys m
-found_is m object frame v a ys e = sym (ap (λ r. found v a 0 ys (record { regs = r; cells = ys })) e)
+    → mem (record { object = object; frame = frame }) nothing_else (keeping v a 0) ys ≡ found_memory v a 0 ys m
+found_is m object frame v a ys e = sym (ap (λ r. found_memory v a 0 ys (record { regs = r; cells = ys })) e)
 
 module _ (im : Image) (m : Memory) (object frame low n steps a v o : ℕ) (shape : Shape) (is_shape : IsShape shape)
     (Kept : List ℕ → Type 0) (orders p : List Symbol)
@@ -60,12 +60,12 @@ module _ (im : Image) (m : Memory) (object frame low n steps a v o : ℕ) (shape
   abbrev at : List ℕ → Memory
   at ys = mem (record { object = object; frame = frame }) nothing_else (keeping v a 0) ys
 
-  same : (ys : List ℕ) → at ys ≡ found v a 0 ys m
+  same : (ys : List ℕ) → at ys ≡ found_memory v a 0 ys m
   same ys = found_is m object frame v a ys regs_are
 
   -- the space of a block
   roomy : (x : ℕ) (cells taken zs : List ℕ) → length cells ≡ length m.cells
-      → Takes low (size_of v shape) a x cells taken → Filled low n taken zs → Room b a v x (size_of v shape) zs
+      → Takes low (block_size_of v shape) a x cells taken → Filled low n taken zs → Room b a v x (block_size_of v shape) zs
   roomy x cells taken zs e t f =
       let w = t.within in
       let c = t.changes.count in
@@ -90,78 +90,78 @@ module _ (im : Image) (m : Memory) (object frame low n steps a v o : ℕ) (shape
 
   -- the middle, from filled cells to those with the block
   leads : (x least most : ℕ) (cells taken ys zs : List ℕ) → length cells ≡ length m.cells → IsLength v shape
-      → Takes low (size_of v shape) a x cells taken → Allocates im object frame o x a v shape low n least most cells
+      → Takes low (block_size_of v shape) a x cells taken → Allocates im object frame o x a v shape low n least most cells
       taken → Filled low n cells ys → Filled low n taken zs → Changes low ys zs
-      → Leads im (new_mid shape orders) (middle_steps shape (size_of v shape) least)
-      (middle_steps shape (size_of v shape) most) (at ys) (at (filled a x (mark_of v shape) zs))
+      → Leads im (new_mid shape orders) (middle_steps shape (block_size_of v shape) least)
+      (middle_steps shape (block_size_of v shape) most) (at ys) (at (filled_words a x (mark_of v shape) zs))
   leads x least most cells taken ys zs e l t alloc f g c =
       let k = f.count in
-      new_leads b a v im shape is_shape orders (order_steps shape) ys zs o x (size_of v shape) least most refl l
+      new_leads b a v im shape is_shape orders (order_steps shape) ys zs o x (block_size_of v shape) least most refl l
       (omega arith) (f.below a a_low ∙ t.nil_before) (roomy x cells taken zs e t g) (finds l)
       (record { leads = record { ahead = alloc.takes ys zs f g c; back = alloc.gives ys zs f g c } })
 
-  pub news : (x least most : ℕ) (taken : List ℕ) → IsLength v shape → Takes low (size_of v shape) a x m.cells taken
+  pub news : (x least most : ℕ) (taken : List ℕ) → IsLength v shape → Takes low (block_size_of v shape) a x m.cells taken
       → Allocates im object frame o x a v shape low n least most m.cells taken
-      → Kept (filled a x (mark_of v shape) taken)
-      → Will im p false m (LeavesWithin (record m { cells = filled a x (mark_of v shape) taken })
-      (steps + (middle_steps shape (size_of v shape) least + steps))
-      (steps + (middle_steps shape (size_of v shape) most + steps)))
+      → Kept (filled_words a x (mark_of v shape) taken)
+      → Will im p false m (LeavesWithin (record m { cells = filled_words a x (mark_of v shape) taken })
+      (steps + (middle_steps shape (block_size_of v shape) least + steps))
+      (steps + (middle_steps shape (block_size_of v shape) most + steps)))
   news x least most taken l t alloc kept =
-      (encloses false).leads (filled a x (mark_of v shape) taken) (middle_steps shape (size_of v shape) least)
-      (middle_steps shape (size_of v shape) most) (filled_changes low (size_of v shape) a x (mark_of v shape)
+      (encloses false).leads (filled_words a x (mark_of v shape) taken) (middle_steps shape (block_size_of v shape) least)
+      (middle_steps shape (block_size_of v shape) most) (filled_changes low (block_size_of v shape) a x (mark_of v shape)
       m.cells taken inside t (mark_word v shape is_shape l)) kept
       (λ ys ys' f f' c.
       let mark : ℕ = mark_of v shape in
       let zs : List ℕ = emptied a x ys' in
-      let g : Filled low n taken zs = emptied_fills low (size_of v shape) a x mark m.cells taken inside t n ys' f' in
+      let g : Filled low n taken zs = emptied_fills low (block_size_of v shape) a x mark m.cells taken inside t n ys' f' in
       let count : length zs ≡ length ys = let q = g.count in let r = f.count in let s = t.changes.count in
       omega arith in
       let change : Changes low ys zs = record {
         count = count;
         words = g.words;
-        above = λ i h. emptied_above low (size_of v shape) a x mark m.cells taken inside t n ys' f' i h
+        above = λ i h. emptied_above low (block_size_of v shape) a x mark m.cells taken inside t n ys' f' i h
             ∙ c.above i h;
       } in
       let on = (leads x least most m.cells taken ys zs refl l t alloc f g change).ahead in
-      let there : at (filled a x mark zs) ≡ found v a 0 ys' m =
-      ap (λ z. at z) (filled_again low (size_of v shape) a x mark m.cells taken inside t n ys' f') ∙ same ys' in
-      subst (λ z. Will im (new_mid shape orders) false (found v a 0 ys m)
-      (LeavesWithin z (middle_steps shape (size_of v shape) least) (middle_steps shape (size_of v shape) most)))
+      let there : at (filled_words a x mark zs) ≡ found_memory v a 0 ys' m =
+      ap (λ z. at z) (filled_again low (block_size_of v shape) a x mark m.cells taken inside t n ys' f') ∙ same ys' in
+      subst (λ z. Will im (new_mid shape orders) false (found_memory v a 0 ys m)
+      (LeavesWithin z (middle_steps shape (block_size_of v shape) least) (middle_steps shape (block_size_of v shape) most)))
       there
-      (subst (λ z. Will im (new_mid shape orders) false z (LeavesWithin (at (filled a x mark zs))
-      (middle_steps shape (size_of v shape) least) (middle_steps shape (size_of v shape) most))) (same ys)
+      (subst (λ z. Will im (new_mid shape orders) false z (LeavesWithin (at (filled_words a x mark zs))
+      (middle_steps shape (block_size_of v shape) least) (middle_steps shape (block_size_of v shape) most))) (same ys)
       on))
 
   pub deletes : (x least most : ℕ) (given taken : List ℕ) → IsLength v shape
-      → m.cells ≡ filled a x (mark_of v shape) taken → Takes low (size_of v shape) a x given taken
+      → m.cells ≡ filled_words a x (mark_of v shape) taken → Takes low (block_size_of v shape) a x given taken
       → Allocates im object frame o x a v shape low n least most given taken → Kept given → Changes low m.cells given
       → Will im p true m (LeavesWithin (record m { cells = given })
-      (steps + (middle_steps shape (size_of v shape) least + steps))
-      (steps + (middle_steps shape (size_of v shape) most + steps)))
+      (steps + (middle_steps shape (block_size_of v shape) least + steps))
+      (steps + (middle_steps shape (block_size_of v shape) most + steps)))
   deletes x least most given taken l e t alloc kept back =
-      (encloses true).leads given (middle_steps shape (size_of v shape) least)
-      (middle_steps shape (size_of v shape) most) back kept
+      (encloses true).leads given (middle_steps shape (block_size_of v shape) least)
+      (middle_steps shape (block_size_of v shape) most) back kept
       (λ ys ys' f f' c.
       let mark : ℕ = mark_of v shape in
       let inside' : low ≤ length given = let q = back.count in omega arith in
-      let fe : Filled low n (filled a x mark taken) ys = subst (λ z. Filled low n z ys) e f in
+      let fe : Filled low n (filled_words a x mark taken) ys = subst (λ z. Filled low n z ys) e f in
       let zs : List ℕ = emptied a x ys in
-      let g : Filled low n taken zs = emptied_fills low (size_of v shape) a x mark given taken inside' t n ys fe in
+      let g : Filled low n taken zs = emptied_fills low (block_size_of v shape) a x mark given taken inside' t n ys fe in
       let count : length zs ≡ length ys' = let q = g.count in let r = f'.count in let s = t.changes.count in
       omega arith in
       let change : Changes low ys' zs = record {
         count = count;
         words = g.words;
-        above = λ i h. emptied_above low (size_of v shape) a x mark given taken inside' t n ys fe i h
+        above = λ i h. emptied_above low (block_size_of v shape) a x mark given taken inside' t n ys fe i h
             ∙ sym (c.above i h);
       } in
       let on = (leads x least most given taken ys' zs back.count l t alloc f' g change).back in
-      let here : at (filled a x mark zs) ≡ found v a 0 ys m =
-      ap (λ z. at z) (filled_again low (size_of v shape) a x mark given taken inside' t n ys fe) ∙ same ys in
-      subst (λ z. Will im (new_mid shape orders) true z (LeavesWithin (found v a 0 ys' m)
-      (middle_steps shape (size_of v shape) least) (middle_steps shape (size_of v shape) most))) here
-      (subst (λ z. Will im (new_mid shape orders) true (at (filled a x mark zs))
-      (LeavesWithin z (middle_steps shape (size_of v shape) least) (middle_steps shape (size_of v shape) most)))
+      let here : at (filled_words a x mark zs) ≡ found_memory v a 0 ys m =
+      ap (λ z. at z) (filled_again low (block_size_of v shape) a x mark given taken inside' t n ys fe) ∙ same ys in
+      subst (λ z. Will im (new_mid shape orders) true z (LeavesWithin (found_memory v a 0 ys' m)
+      (middle_steps shape (block_size_of v shape) least) (middle_steps shape (block_size_of v shape) most))) here
+      (subst (λ z. Will im (new_mid shape orders) true (at (filled_words a x mark zs))
+      (LeavesWithin z (middle_steps shape (block_size_of v shape) least) (middle_steps shape (block_size_of v shape) most)))
       (same ys') on))
 
   -- ---- faults
@@ -205,14 +205,14 @@ module _ (im : Image) (m : Memory) (object frame low n steps a v o : ℕ) (shape
       (there ys f) (f.below a a_low ∙ e) s some (omega arith) (f.below x (omega arith) ∙ q)
       (λ r. h (sym (f.below (x + 1) l) ∙ r)))
 
-  pub not_empty : (x i : ℕ) → slice_index m.cells a ≡ x → x + HEADER_WORDS + size_of v shape ≤ low
-      → x + HEADER_WORDS + size_of v shape < 2 ^ 31 → x ≢ 0 → slice_index m.cells x ≡ mark_of v shape
-      → slice_index m.cells (x + 1) ≡ 1 → x + HEADER_WORDS ≤ i → i < x + HEADER_WORDS + size_of v shape
+  pub not_empty : (x i : ℕ) → slice_index m.cells a ≡ x → x + HEADER_WORDS + block_size_of v shape ≤ low
+      → x + HEADER_WORDS + block_size_of v shape < 2 ^ 31 → x ≢ 0 → slice_index m.cells x ≡ mark_of v shape
+      → slice_index m.cells (x + 1) ≡ 1 → x + HEADER_WORDS ≤ i → i < x + HEADER_WORDS + block_size_of v shape
       → slice_index m.cells i ≢ 0
-      → Will im p true m (TrapsWithin NOT_EMPTY (steps + (27 + 13 * size_of v shape)))
+      → Will im p true m (TrapsWithin NOT_EMPTY (steps + (27 + 13 * block_size_of v shape)))
   not_empty x i e w s some q c lo hi h =
       stops true 7 _ (λ ys f. let k = f.count in deleted_full b a v im shape is_shape orders (order_steps shape) ys x
-      (there ys f) (f.below a a_low ∙ e) (omega arith) some (size_of v shape) i refl (omega arith) s
+      (there ys f) (f.below a a_low ∙ e) (omega arith) some (block_size_of v shape) i refl (omega arith) s
       (f.below x (omega arith) ∙ q) (f.below (x + 1) (omega arith) ∙ c) lo hi
       (λ z. h (sym (f.below i (omega arith)) ∙ z)))
 
@@ -237,7 +237,7 @@ object_law spot free table fields o target p t f w law = record {
   makes = λ im m object frame a regs_are can at apart.
       let i = can.ready.inside in
       makes im m object frame (free_at free m) (place_words target) (found_place_steps target) a 0 o
-      (Fixed table fields) (t, f) (Stays spot (bases_of m) (free_at free m) target (Null 0) m.cells)
+      (Fixed table fields) (t, f) (UpdateStays spot (bases_of m) (free_at free m) target (Null 0) m.cells)
       (xori order o ∷ []) p
       (λ d. law.encloses im d m can a at apart)
       (λ l ys. goes_set _ (λ z. calling (record { object = object; frame = frame }) z 0 a 0 (Fixed table fields) ys) o
@@ -255,7 +255,7 @@ array_law spot free target size p law = record {
   makes = λ im m object frame a v regs_are can at value apart.
       let i = can.ready.inside in
       makes im m object frame (free_at free m) (place_words target + words size) (found_value_steps target size) a v
-      (order_for (HEADER_WORDS + v)) Lengthy tt (Stays spot (bases_of m) (free_at free m) target size m.cells)
+      (order_for (HEADER_WORDS + v)) Lengthy tt (UpdateStays spot (bases_of m) (free_at free m) target size m.cells)
       order_cells p
       (λ d. law.encloses im d m can a v at value apart)
       (λ l ys. ordering (record { object = object; frame = frame }) a v ys l.0 l.1)

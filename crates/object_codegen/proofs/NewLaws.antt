@@ -19,9 +19,9 @@ use Rattle.expr_uncompute.proofs.register_expressions_laws.Goes.{Goes, Traps, go
 use Rattle.expr_uncompute.proofs.register_expressions_laws.Scratch.{keeping, mem}
 use Rattle.object_codegen.specs.declared.shape.Shape.{Shape}
 use Rattle.object_codegen.specs.declared.shape.Shape.TheVariants.{Fixed, Lengthy}
-use Rattle.object_codegen.specs.Code.{mark_of, mark_fault, size_of, positive, new_checks, delete_checks, new_alter}
+use Rattle.object_codegen.specs.Code.{mark_of, mark_fault, block_size_of, positive, new_checks, delete_checks, new_alter}
 use Rattle.object_codegen.specs.Code.{new_mid}
-use Rattle.object_codegen.specs.News.{filled, IsShape, IsLength, check_steps, move_steps, zeros_steps}
+use Rattle.object_codegen.specs.News.{filled_words, IsShape, IsLength, check_steps, move_steps, zeros_steps}
 use Rattle.object_codegen.proofs.Touching.{by_place, nil_goes, nil_traps, goes_positive, traps_positive}
 use Rattle.object_codegen.proofs.Deleting.{delete_nil, delete_other, delete_shared, delete_full, delete_passes}
 use Rattle.object_codegen.proofs.Leading.{Leads, goes_leads, leads_seq, falls_first, goes_falls, fault_ahead}
@@ -72,33 +72,33 @@ module _ (b : Bases) (p v : ℕ) where
 
   module _ (im : Image) (shape : Shape) (is_shape : IsShape shape) (orders : List Symbol) (k : ℕ) where
     -- along a new, back a delete
-    pub new_leads : (zs zt : List ℕ) (o x n lo hi : ℕ) → size_of v shape ≡ n → IsLength v shape → p < length zs
+    pub new_leads : (zs zt : List ℕ) (o x n lo hi : ℕ) → block_size_of v shape ≡ n → IsLength v shape → p < length zs
         → slice_index zs p ≡ 0 → Room x n zt
         → ((ys : List ℕ) → Goes orders k (calling b 0 0 p v shape ys) (calling b o 0 p v shape ys))
         → Called im b lo hi o x p v shape zs zt
         → Leads im (new_mid shape orders) (mid_steps shape n k lo) (mid_steps shape n k hi) (found zs)
-        (found (filled p x (mark_of v shape) zt))
+        (found (filled_words p x (mark_of v shape) zt))
     new_leads zs zt o x n lo hi n_is is_length p_in nil r found_order alloc =
         let bl = r.blank in
         let i = r.within in
         let mark : ℕ = mark_of v shape in
         let z1 : List ℕ = slice_set zt x (mark_of v shape) in
         let z2 : List ℕ = slice_set (slice_set zt x (mark_of v shape)) (x + 1) 1 in
-        let ys : List ℕ = filled p x (mark_of v shape) zt in
+        let ys : List ℕ = filled_words p x (mark_of v shape) zt in
         let l1 : length (slice_set zt x (mark_of v shape)) ≡ length zt = length-set zt x (mark_of v shape) in
         let l2 : length (slice_set (slice_set zt x (mark_of v shape)) (x + 1) 1) ≡ length zt =
         length-set (slice_set zt x (mark_of v shape)) (x + 1) 1 ∙ l1 in
-        let l3 : length (filled p x (mark_of v shape) zt) ≡ length zt = length-set z2 p x ∙ l2 in
+        let l3 : length (filled_words p x (mark_of v shape) zt) ≡ length zt = length-set z2 p x ∙ l2 in
         let p2 : p < length (slice_set (slice_set zt x (mark_of v shape)) (x + 1) 1) = let h = bl.p_in in omega arith in
         let x1 : x + 1 < length (slice_set zt x (mark_of v shape)) = omega arith in
-        let source : slice_index (filled p x (mark_of v shape) zt) p ≡ x = get_or-set_same z2 p x 0 p2 in
-        let mark_is : slice_index (filled p x (mark_of v shape) zt) x ≡ mark_of v shape =
+        let source : slice_index (filled_words p x (mark_of v shape) zt) p ≡ x = get_or-set_same z2 p x 0 p2 in
+        let mark_is : slice_index (filled_words p x (mark_of v shape) zt) x ≡ mark_of v shape =
         get_or-set_other z2 p x x 0 (λ q. bl.apart (sym q)) ∙ get_or-set_other z1 (x + 1) x 1 0 (λ q. omega arith)
         ∙ get_or-set_same zt x mark 0 (omega arith) in
-        let count_is : slice_index (filled p x (mark_of v shape) zt) (x + 1) ≡ 1 =
+        let count_is : slice_index (filled_words p x (mark_of v shape) zt) (x + 1) ≡ 1 =
         get_or-set_other z2 p (x + 1) x 0 (λ q. bl.p_apart (sym q)) ∙ get_or-set_same z1 (x + 1) 1 0 x1 in
         let zero : (a : ℕ) → x + HEADER_WORDS ≤ a → a < x + HEADER_WORDS + n
-        → slice_index (filled p x (mark_of v shape) zt) a ≡ 0 =
+        → slice_index (filled_words p x (mark_of v shape) zt) a ≡ 0 =
         λ a h l. get_or-set_other z2 p a x 0 (λ q. r.outside a h l (sym q))
         ∙ get_or-set_other z1 (x + 1) a 1 0 (λ q. omega arith) ∙ get_or-set_other zt x a mark 0 (λ q. omega arith)
         ∙ r.zero a h l in
@@ -142,7 +142,7 @@ module _ (b : Bases) (p v : ℕ) where
       deleted_shared small some h e n = fault_back (new_checks shape) (new_alter shape orders)
           (delete_shared b nothing_else v p x shape zs is_shape p_in source small some h e n) im
 
-      pub deleted_full : x < 2 ^ 31 → x ≢ 0 → (n a : ℕ) → size_of v shape ≡ n → x + HEADER_WORDS + n ≤ length zs
+      pub deleted_full : x < 2 ^ 31 → x ≢ 0 → (n a : ℕ) → block_size_of v shape ≡ n → x + HEADER_WORDS + n ≤ length zs
           → x + HEADER_WORDS + n < 2 ^ 31 → slice_index zs x ≡ mark_of v shape → slice_index zs (x + 1) ≡ 1
           → x + HEADER_WORDS ≤ a
           → a < x + HEADER_WORDS + n → slice_index zs a ≢ 0

@@ -23,12 +23,12 @@ use Rattle.static_layout.specs.roopl_semantics.Elements.{index_elements, own_ele
 use Rattle.static_layout.specs.roopl_semantics.Execution.{Setting, Runner, statement, freed, NOT_NIL, COUNT}
 use Rattle.static_layout.specs.roopl_semantics.Execution.{NOT_EMPTY, HEAP_FULL, CLASS_DIFFERS}
 use Rattle.expr_uncompute.specs.refine_form.declared.spot.Spot.{Spot}
-use Rattle.expr_uncompute.specs.refine_form.Form.{told, turned as facing}
+use Rattle.expr_uncompute.specs.refine_form.Form.{run_result, turned_statement as facing}
 use Rattle.expr_uncompute.specs.Code.{place_words}
 use Rattle.expr_uncompute.specs.register_expressions.Number.{place_address, update_shares}
 use Rattle.expr_uncompute.specs.Steps.{place_steps}
 use Rattle.expr_uncompute.specs.register_expressions.Laws.{bases_of}
-use Rattle.expr_uncompute.specs.Laws.{Stays}
+use Rattle.expr_uncompute.specs.Laws.{UpdateStays}
 use Rattle.expr_uncompute.specs.Promises.{free_at}
 use Rattle.expr_uncompute.specs.Found.{LeavesWithin, leaves_within, TrapsWithin, found_place_steps}
 use Rattle.expr_uncompute.specs.Means.{shown, cell_address, cell_result, SameCells}
@@ -36,7 +36,7 @@ use Rattle.expr_uncompute.proofs.Bounds.{place_less, found_place_most, found_pla
 use Rattle.expr_uncompute.proofs.Meaning.{place_is}
 use Rattle.expr_uncompute.proofs.Sharing.{update_shares_is}
 use Rattle.object_codegen.specs.declared.shape.Shape.TheVariants.{Fixed}
-use Rattle.object_codegen.specs.News.{filled, whole_steps, Makes, ObjectLaw}
+use Rattle.object_codegen.specs.News.{filled_words, whole_steps, Makes, ObjectLaw}
 use Rattle.object_codegen.proofs.Bounds.{zeros_most}
 use Rattle.expr_uncompute.proofs.Rated.{rated, less, trap_meets, stop_meets}
 use Rattle.object_codegen.proofs.CopyRows.{Refers}
@@ -130,7 +130,7 @@ module _ (setting : Setting) (address slot : State → ℕ → ℕ) (R : State �
     stay : (st st' : State) (m : Memory) (cells' : List ℕ) → R st m → R st' (record m { cells = cells' })
         → KeepsNames setting address slot R spot free object frame im st st' → SameCells setting.program st st' target
         → sharing st' ≡ false
-        → Stays spot (bases_of m) (free_at free m) target (Null 0) m.cells cells'
+        → UpdateStays spot (bases_of m) (free_at free m) target (Null 0) m.cells cells'
     stay st st' m cells' r r' keeps same apart = record {
       place_sees = (facts.can st' (record m { cells = cells' }) r').first;
       value_sees = tt;
@@ -145,7 +145,7 @@ module _ (setting : Setting) (address slot : State → ℕ → ℕ) (R : State �
       where
         makes : sharing st ≡ false → Makes im m object frame (free_at free m) (place_words target)
             (found_place_steps target) (at st cell) 0 order (Fixed table fields)
-            (Stays spot (bases_of m) (free_at free m) target (Null 0) m.cells) p
+            (UpdateStays spot (bases_of m) (free_at free m) target (Null 0) m.cells) p
         makes e = law.makes im m object frame (at st cell) (facts.regs_are st m r) (facts.can st m r)
             (place_at_is st m r (Ok cell) nc) (shares_is st m r ∙ e)
 
@@ -161,7 +161,7 @@ module _ (setting : Setting) (address slot : State → ℕ → ℕ) (R : State �
 
         new_by : (v : Value) (full : Bool) → read st cell ≡ v
             → is_full setting (length (fresh_cells setting class)) st ≡ full → sharing st ≡ false
-            → Will im p false m (Meets R rates n0 0 (told (one_row target (Ok cell)
+            → Will im p false m (Meets R rates n0 0 (run_result (one_row target (Ok cell)
             (λ c. kept_by reads false (new_end setting.limits.heap full v (with_new setting class c st))))))
         new_by (Word w) full e ef sh = absurd (subst (Refers (address st)) e (facts.refers st m cell r nc))
         new_by (Name name) full e ef sh =
@@ -179,11 +179,11 @@ module _ (setting : Setting) (address slot : State → ℕ → ℕ) (R : State �
             leave_meets false m _ (with_new setting class cell st) _ h.after (omega arith)
             ((makes sh).news h.x (setting.limits.heap + 1) (most_steps setting.limits.heap + 7) h.taken tt h.takes
             h.allocates
-            (stay st (with_new setting class cell st) m (filled (at st cell) h.x table h.taken) r h.after h.keeps s.0
+            (stay st (with_new setting class cell st) m (filled_words (at st cell) h.x table h.taken) r h.after h.keeps s.0
             s.1))
 
         delete_by : (v : Value) → read st cell ≡ v → sharing st ≡ false
-            → Will im p true m (Meets R rates n0 0 (told (one_row target (Ok cell)
+            → Will im p true m (Meets R rates n0 0 (run_result (one_row target (Ok cell)
             (λ c. kept_by reads false (delete_end setting class st c v)))))
         delete_by (Word w) e sh = absurd (subst (Refers (address st)) e (facts.refers st m cell r nc))
         delete_by Nil e sh = fault_meets true 5 4 _ (omega arith) (omega arith) ((makes sh).nil_faults (word_at Nil e))
@@ -198,7 +198,7 @@ module _ (setting : Setting) (address slot : State → ℕ → ℕ) (R : State �
 
             last : (same one empty : Bool) → same_class setting class st name ≡ same → nat_eq (count_at st name) 1 ≡ one
                 → is_empty st name ≡ empty
-                → Will im p true m (Meets R rates n0 0 (told (one_row target (Ok cell)
+                → Will im p true m (Meets R rates n0 0 (run_result (one_row target (Ok cell)
                 (λ c. kept_by reads false (fault_if NIL false >>= λ _. delete_last setting.limits.heap same
                 one empty (freed setting c name st))))))
             last false one empty es eo ez =
@@ -238,7 +238,7 @@ module _ (setting : Setting) (address slot : State → ℕ → ℕ) (R : State �
 
         -- if no array is shared, or one is
         ends_by : (d shared : Bool) → sharing st ≡ shared → Will im p d m
-            (Meets R rates n0 0 (told (one_row target (Ok cell)
+            (Meets R rates n0 0 (run_result (one_row target (Ok cell)
             (λ c. kept_by reads shared (end_of setting class d st c (read st c))))))
         ends_by false false e = new_by (read st cell) (is_full setting (length (fresh_cells setting class)) st) refl
             refl
@@ -252,7 +252,7 @@ module _ (setting : Setting) (address slot : State → ℕ → ℕ) (R : State �
 
     one_meets : (d : Bool) (st : State) (m : Memory) → R st m → (rc : Result Cell ℕ)
         → cell_of setting.program st target ≡ rc → Will im p d m
-        (Meets R rates n0 0 (told (one_row target rc (λ c. kept_by reads (sharing st)
+        (Meets R rates n0 0 (run_result (one_row target rc (λ c. kept_by reads (sharing st)
         (end_of setting class d st c (read st c))))))
     one_meets d st m r (Err c) nc =
         let one = place_less target in
@@ -270,9 +270,9 @@ module _ (setting : Setting) (address slot : State → ℕ → ℕ) (R : State �
     -- the fragment of a new does what the source says of it, and run backward what it says of its
     -- inverse
     pub new_does : (d : Bool) (here n : ℕ) (run : Runner) → Does im p d R R rates n0 0
-        (λ st. told (after_cost 1 (statement setting n run (facing d (New here (AnObject class) target)) st)))
+        (λ st. run_result (after_cost 1 (statement setting n run (facing d (New here (AnObject class) target)) st)))
     new_does d here n run = record {
-      does = λ st m h. subst (λ r. Will im p d m (Meets R rates n0 0 (told r))) (sym (new_is d here n run st))
+      does = λ st m h. subst (λ r. Will im p d m (Meets R rates n0 0 (run_result r))) (sym (new_is d here n run st))
           (one_meets d st m h (cell_of setting.program st target) refl);
     }
 
@@ -283,10 +283,10 @@ module _ (setting : Setting) (address slot : State → ℕ → ℕ) (R : State �
 
     -- and its inverse that of a delete
     pub delete_does : (d : Bool) (here n : ℕ) (run : Runner)
-        → Does im (mirror_cells p) d R R rates n0 0 (λ st. told
+        → Does im (mirror_cells p) d R R rates n0 0 (λ st. run_result
         (after_cost 1 (statement setting n run (facing d (Delete here (AnObject class) target)) st)))
     delete_does d here n run = record {
       does = λ st m h. will_mirror im p d m _ (subst (λ s. Will im p (not d) m
-          (Meets R rates n0 0 (told (after_cost 1 (statement setting n run s st))))) (sym (delete_is d here))
+          (Meets R rates n0 0 (run_result (after_cost 1 (statement setting n run s st))))) (sym (delete_is d here))
           ((new_does (not d) here n run).does st m h));
     }

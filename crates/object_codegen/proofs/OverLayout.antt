@@ -14,20 +14,20 @@ use Rattle.refine_heap.specs.rpp_words.Words.{IsWord}
 use Rattle.refine_heap.specs.rpp_words.declared.input.Limits.{Limits}
 use Rattle.rpp_tree.specs.Tree.{Source}
 use Rattle.refine_heap.specs.pisa_isa.Loaded.{statics_at, heap_base, fixed_cells}
-use Rattle.refine_heap.specs.buddy_book.Book.{Book, take, give}
+use Rattle.refine_heap.specs.buddy_book.Book.{Book, take, give_back}
 use Rattle.refine_heap.specs.buddy_book.Shown.{TakenBlocks, order_in}
 use Rattle.refine_heap.specs.buddy_book.Place.{Placing}
 use Rattle.refine_heap.specs.pisa_isa.Machine.{Memory}
 use Rattle.refine_heap.specs.paired_code.declared.part.Symbol.{Symbol}
 use Rattle.refine_heap.specs.paired_code.declared.part.Symbol.TheVariants.{Enter}
-use Rattle.refine_heap.specs.paired_code.Machine.{Image, reg}
+use Rattle.refine_heap.specs.paired_code.Machine.{Image, memory_reg}
 use Rattle.refine_heap.specs.paired_code.Layout.{Routine, Tidy}
 use Rattle.refine_heap.specs.paired_code.Pieces.{Outcome, Will}
 use Rattle.refine_heap.proofs.paired_code_laws.Laws.{will_more}
 use Rattle.static_layout.specs.roopl_semantics.Store.{Store}
 use Rattle.static_layout.specs.roopl_semantics.Layout.{first_address, static_words, heap_words, laid}
 use Rattle.refine_heap.specs.buddy_pisa.Promise.{Enters, AllocatorLaw, most_steps}
-use Rattle.refine_heap.specs.Laid.{StandsBeside, IsPlaced}
+use Rattle.refine_heap.specs.Laid.{StandsBeside, IsHeapPlaced}
 use Rattle.refine_heap.specs.Calls.{LeavesIn, leaves_in, TrapsFull, traps_full, Calls}
 use Rattle.refine_heap.proofs.Called.{laid_calls_law}
 use Rattle.expr_uncompute.specs.Found.{LeavesWithin, leaves_within, TrapsWithin, traps_within, Filled, Changes}
@@ -97,8 +97,8 @@ module _ (object frame o p v : ℕ) (shape : Shape) (object_small : object < 2 ^
   enters x zs h =
       let z : ◌<◌ 0 (2 ^ 32) = omega arith in
       let w : left_length v shape < 2 ^ 32 = rw (none_left v shape left) z in
-      let zero_at : ℕ → Type 0 = λ r. reg (calling object frame o x p v shape zs) r ≡ 0 in
-      let none : All (λ r. reg (calling object frame o x p v shape zs) r ≡ 0) [] = λ i d k. absurd (omega arith) in
+      let zero_at : ℕ → Type 0 = λ r. memory_reg (calling object frame o x p v shape zs) r ≡ 0 in
+      let none : All (λ r. memory_reg (calling object frame o x p v shape zs) r ≡ 0) [] = λ i d k. absurd (omega arith) in
       record {
         count = refl;
         words = All-from_get_or IsWord (calling object frame o x p v shape zs).regs 0
@@ -201,7 +201,7 @@ module _ (object frame o p v : ℕ) (shape : Shape) (object_small : object < 2 ^
           parts words rest = ap (λ z. z ++ rest) (sym (append-nil words))
 
       call : (x : ℕ) (placing : Placing) (taken : TakenBlocks) (stack : List ℕ)
-          → IsPlaced program limits statics store placing taken
+          → IsHeapPlaced program limits statics store placing taken
           → All IsWord (laid program limits statics store placing stack)
           → Calls im 0 top body (calling object frame o x p v shape (laid program limits statics store placing stack))
           program limits statics store placing taken stack
@@ -215,9 +215,9 @@ module _ (object frame o p v : ℕ) (shape : Shape) (object_small : object < 2 ^
       -- a block is there, before it is taken and after
       pub record Gets (placing : Placing) (taken taken' : TakenBlocks) (block : ℕ) (after : Book) : Type 0 where
         pub takes : take placing.book o ≡ Some (block, after)
-        pub gives : give after o block ≡ placing.book
-        pub placed : IsPlaced program limits statics store placing taken
-        pub placed_after : IsPlaced program limits statics store (record { book = after; blocks = placing.blocks })
+        pub gives : give_back after o block ≡ placing.book
+        pub placed : IsHeapPlaced program limits statics store placing taken
+        pub placed_after : IsHeapPlaced program limits statics store (record { book = after; blocks = placing.blocks })
             taken'
         pub is_taken : order_in taken' block ≡ Some o
         pub address_small : heap_base limits.heap (length statics) + block < 2 ^ 32
@@ -294,7 +294,7 @@ module _ (object frame o p v : ℕ) (shape : Shape) (object_small : object < 2 ^
               let rest : List ℕ = drop (length (front placing)) ys in
               let words : All IsWord (laid program limits statics store later (drop (length (front placing)) ys)) =
               subst (All IsWord) (after_is ys zs f g c) (words_are low n _ zs g) in
-              let apart : StandsBeside program limits statics store placing.blocks (give after o block) =
+              let apart : StandsBeside program limits statics store placing.blocks (give_back after o block) =
               subst (λ z. StandsBeside program limits statics store placing.blocks z) (sym gets.gives)
               gets.placed.apart in
               let run = (laid_calls_law im 0 top body (calling object frame o x p v shape
@@ -320,7 +320,7 @@ module _ (object frame o p v : ℕ) (shape : Shape) (object_small : object < 2 ^
 
       -- or none is
       pub lacks : (placing : Placing) (taken : TakenBlocks) (stack : List ℕ) (low n : ℕ)
-          → IsPlaced program limits statics store placing taken → take placing.book o ≡ None
+          → IsHeapPlaced program limits statics store placing taken → take placing.book o ≡ None
           → length (front placing) ≤ low → low ≤ length (laid program limits statics store placing stack)
           → Lacks im object frame o p v shape low n (most_steps limits.heap + 7)
           (laid program limits statics store placing stack)

@@ -5,7 +5,7 @@ use Rattle.std.proofs.lemmas.List.{get_or-set_same, get_or-set_other, set-set, s
 use Rattle.expr_uncompute.specs.Found.{Filled, Changes}
 use Rattle.expr_uncompute.proofs.register_expressions_laws.Numbers.{words_set}
 use Rattle.expr_uncompute.proofs.Written.{set_lifts}
-use Rattle.object_codegen.specs.News.{Takes, filled}
+use Rattle.object_codegen.specs.News.{Takes, filled_words}
 
 abbrev pub emptied : (p x : ℕ) → List ℕ → List ℕ
 emptied p x zs = slice_set (slice_set (slice_set zs p 0) (x + 1) 0) x 0
@@ -14,7 +14,7 @@ emptied_length : (p x : ℕ) (zs : List ℕ) → length (emptied p x zs) ≡ len
 emptied_length p x zs = length-set (slice_set (slice_set zs p 0) (x + 1) 0) x 0
     ∙ length-set (slice_set zs p 0) (x + 1) 0 ∙ length-set zs p 0
 
-filled_length : (p x mark : ℕ) (zs : List ℕ) → length (filled p x mark zs) ≡ length zs
+filled_length : (p x mark : ℕ) (zs : List ℕ) → length (filled_words p x mark zs) ≡ length zs
 filled_length p x mark zs = length-set (slice_set (slice_set zs x mark) (x + 1) 1) p x
     ∙ length-set (slice_set zs x mark) (x + 1) 1 ∙ length-set zs x mark
 
@@ -26,14 +26,14 @@ emptied_other p x zs k n n' n'' =
     ∙ get_or-set_other (slice_set zs p 0) (x + 1) k 0 0 n'' ∙ get_or-set_other zs p k 0 0 n
 
 filled_other : (p x mark : ℕ) (zs : List ℕ) (k : ℕ) → k ≢ p → k ≢ x → k ≢ x + 1
-    → slice_index (filled p x mark zs) k ≡ slice_index zs k
+    → slice_index (filled_words p x mark zs) k ≡ slice_index zs k
 filled_other p x mark zs k n n' n'' =
     get_or-set_other (slice_set (slice_set zs x mark) (x + 1) 1) p k x 0 n
     ∙ get_or-set_other (slice_set zs x mark) (x + 1) k 1 0 n'' ∙ get_or-set_other zs x k mark 0 n'
 
 -- cells in which a block is filled, emptied and filled
 refilled : (p x mark : ℕ) (zs : List ℕ) → slice_index zs p ≡ x → slice_index zs x ≡ mark → slice_index zs (x + 1) ≡ 1
-    → p ≢ x → p ≢ x + 1 → filled p x mark (emptied p x zs) ≡ zs
+    → p ≢ x → p ≢ x + 1 → filled_words p x mark (emptied p x zs) ≡ zs
 refilled p x mark zs at_p at_x at_c n n' =
     let one : List ℕ = slice_set zs p 0 in
     let two : List ℕ = slice_set (slice_set zs p 0) (x + 1) 0 in
@@ -49,7 +49,7 @@ refilled p x mark zs at_p at_x at_c n n' =
 
 -- and filled and emptied
 emptied_filled : (p x mark : ℕ) (zs : List ℕ) → slice_index zs p ≡ 0 → slice_index zs x ≡ 0 → slice_index zs (x + 1) ≡ 0
-    → p ≢ x → p ≢ x + 1 → emptied p x (filled p x mark zs) ≡ zs
+    → p ≢ x → p ≢ x + 1 → emptied p x (filled_words p x mark zs) ≡ zs
 emptied_filled p x mark zs at_p at_x at_c n n' =
     let one : List ℕ = slice_set zs x mark in
     let two : List ℕ = slice_set (slice_set zs x mark) (x + 1) 1 in
@@ -75,14 +75,14 @@ module _ (low size p x mark : ℕ) (cells taken : List ℕ) (inside : low ≤ le
   taken_in = let c = t.changes.count in omega arith
 
   -- what the block and the place have
-  pub place_is : slice_index (filled p x mark taken) p ≡ x
+  pub place_is : slice_index (filled_words p x mark taken) p ≡ x
   place_is =
       let i = taken_in in
       let h = t.p_in in
       get_or-set_same (slice_set (slice_set taken x mark) (x + 1) 1) p x 0
       (rw (length-set (slice_set taken x mark) (x + 1) 1, length-set taken x mark) (omega arith))
 
-  pub mark_is : slice_index (filled p x mark taken) x ≡ mark
+  pub mark_is : slice_index (filled_words p x mark taken) x ≡ mark
   mark_is =
       let i = taken_in in
       let h = t.within in
@@ -90,7 +90,7 @@ module _ (low size p x mark : ℕ) (cells taken : List ℕ) (inside : low ≤ le
       ∙ get_or-set_other (slice_set taken x mark) (x + 1) x 1 0 (λ q. omega arith)
       ∙ get_or-set_same taken x mark 0 (omega arith)
 
-  pub count_is : slice_index (filled p x mark taken) (x + 1) ≡ 1
+  pub count_is : slice_index (filled_words p x mark taken) (x + 1) ≡ 1
   count_is =
       let i = taken_in in
       let h = t.within in
@@ -98,7 +98,7 @@ module _ (low size p x mark : ℕ) (cells taken : List ℕ) (inside : low ≤ le
       ∙ get_or-set_same (slice_set taken x mark) (x + 1) 1 0 (rw (length-set taken x mark) (omega arith))
 
   -- the cells as they become
-  pub filled_changes : mark < 2 ^ 32 → Changes low cells (filled p x mark taken)
+  pub filled_changes : mark < 2 ^ 32 → Changes low cells (filled_words p x mark taken)
   filled_changes h =
       let w = t.within in
       let l = t.p_in in
@@ -112,7 +112,7 @@ module _ (low size p x mark : ℕ) (cells taken : List ℕ) (inside : low ≤ le
             ∙ t.changes.above k g;
       }
 
-  module _ (n : ℕ) (ys : List ℕ) (f : Filled low n (filled p x mark taken) ys) where
+  module _ (n : ℕ) (ys : List ℕ) (f : Filled low n (filled_words p x mark taken) ys) where
     -- filled words over the block, emptied: filled words over the one that was taken
     pub emptied_fills : Filled low n taken (emptied p x ys)
     emptied_fills =
@@ -130,10 +130,10 @@ module _ (low size p x mark : ℕ) (cells taken : List ℕ) (inside : low ≤ le
               ∙ filled_other p x mark taken k (λ q. omega arith) (λ q. omega arith) (λ q. omega arith);
         }
       where
-        lifted : (k : ℕ) → slice_index ys k ≡ slice_index (filled p x mark taken) k
-            → slice_index (emptied p x ys) k ≡ slice_index (emptied p x (filled p x mark taken)) k
+        lifted : (k : ℕ) → slice_index ys k ≡ slice_index (filled_words p x mark taken) k
+            → slice_index (emptied p x ys) k ≡ slice_index (emptied p x (filled_words p x mark taken)) k
         lifted k e =
-            let whole : List ℕ = filled p x mark taken in
+            let whole : List ℕ = filled_words p x mark taken in
             let one : length (slice_set ys p 0) ≡ length (slice_set whole p 0) = length-set ys p 0 ∙ f.count
             ∙ sym (length-set whole p 0) in
             let two : length (slice_set (slice_set ys p 0) (x + 1) 0)
@@ -149,7 +149,7 @@ module _ (low size p x mark : ℕ) (cells taken : List ℕ) (inside : low ≤ le
         emptied_other p x ys k (λ q. omega arith) (λ q. omega arith) (λ q. omega arith)
 
     -- with the block filled again
-    pub filled_again : filled p x mark (emptied p x ys) ≡ ys
+    pub filled_again : filled_words p x mark (emptied p x ys) ≡ ys
     filled_again =
         let w = t.within in
         refilled p x mark ys (f.below p t.p_in ∙ place_is) (f.below x (omega arith) ∙ mark_is)

@@ -153,9 +153,9 @@ abbrev pub mark_of : ℕ → Shape → ℕ
 mark_of v (Fixed table fields) = table
 mark_of v Lengthy = v
 
-abbrev pub size_of : ℕ → Shape → ℕ
-size_of v (Fixed table fields) = fields
-size_of v Lengthy = v
+abbrev pub block_size_of : ℕ → Shape → ℕ
+block_size_of v (Fixed table fields) = fields
+block_size_of v Lengthy = v
 
 -- ---- the change
 

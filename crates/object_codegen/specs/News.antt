@@ -22,14 +22,14 @@ use Rattle.expr_uncompute.specs.Code.{place_words}
 use Rattle.expr_uncompute.specs.register_expressions.Number.{number, lvalue_read, place_address, update_shares}
 use Rattle.expr_uncompute.specs.Steps.{place_steps, fetch_steps}
 use Rattle.expr_uncompute.specs.register_expressions.Laws.{bases_of}
-use Rattle.expr_uncompute.specs.Laws.{Stays}
-use Rattle.expr_uncompute.specs.Promises.{free_at, CanRun, IsTrap}
+use Rattle.expr_uncompute.specs.Laws.{UpdateStays}
+use Rattle.expr_uncompute.specs.Promises.{free_at, CanEvaluate, IsTrap}
 use Rattle.expr_uncompute.specs.Found.{LeavesWithin, TrapsWithin, Filled, Changes}
 use Rattle.expr_uncompute.specs.Found.{found_place_steps, found_value_steps}
 use Rattle.object_codegen.specs.declared.news.TheConstants.{FEW_FIELDS}
 use Rattle.object_codegen.specs.declared.shape.Shape.{Shape}
 use Rattle.object_codegen.specs.declared.shape.Shape.TheVariants.{Fixed, Lengthy}
-use Rattle.object_codegen.specs.Code.{mark_fault, mark_of, size_of}
+use Rattle.object_codegen.specs.Code.{mark_fault, mark_of, block_size_of}
 
 -- ---- the allocator's call
 
@@ -52,8 +52,7 @@ moved_length v (Fixed table fields) = 0
 moved_length v Lengthy = v
 
 -- the memory of a call: the order and the block in their registers, the place and the length out of
--- the
--- allocator's way
+-- the allocator's way
 abbrev pub calling : (object frame order block p v : ℕ) → Shape → List ℕ → Memory
 calling object frame order block p v shape cells =
     room object frame 0 0 0 order block p (moved_length v shape)
@@ -94,8 +93,8 @@ pub record Takes (low size p x : ℕ) (cells taken : List ℕ) : Type 0 where
   pub outside : (a : ℕ) → x ≤ a → a < x + HEADER_WORDS + size → p ≢ a
 
 -- then the block gets its first word and its count, and the place its address
-abbrev pub filled : (p x mark : ℕ) → List ℕ → List ℕ
-filled p x mark cells = slice_set (slice_set (slice_set cells x mark) (x + 1) 1) p x
+abbrev pub filled_words : (p x mark : ℕ) → List ℕ → List ℕ
+filled_words p x mark cells = slice_set (slice_set (slice_set cells x mark) (x + 1) 1) p x
 
 -- the numbers of a shape are words, and a length is from 1 to 2^31 - 1
 abbrev pub IsShape : Shape → Type 0
@@ -146,21 +145,21 @@ whole_steps steps shape size t = steps + (middle_steps shape size t + steps)
 pub record Makes (im : Image) (m : Memory) (object frame low n steps a v order : ℕ) (shape : Shape)
     (Kept : List ℕ → Type 0) (p : List Symbol) : Type 0 where
   pub news : (x least most : ℕ) (taken : List ℕ) → IsLength v shape
-      → Takes low (size_of v shape) a x m.cells taken
+      → Takes low (block_size_of v shape) a x m.cells taken
       → Allocates im object frame order x a v shape low n least most m.cells taken
-      → Kept (filled a x (mark_of v shape) taken)
+      → Kept (filled_words a x (mark_of v shape) taken)
       → Will im p false m
-      (LeavesWithin (record m { cells = filled a x (mark_of v shape) taken })
-      (whole_steps steps shape (size_of v shape) least)
-      (whole_steps steps shape (size_of v shape) most))
+      (LeavesWithin (record m { cells = filled_words a x (mark_of v shape) taken })
+      (whole_steps steps shape (block_size_of v shape) least)
+      (whole_steps steps shape (block_size_of v shape) most))
   pub deletes : (x least most : ℕ) (given taken : List ℕ) → IsLength v shape
-      → m.cells ≡ filled a x (mark_of v shape) taken → Takes low (size_of v shape) a x given taken
+      → m.cells ≡ filled_words a x (mark_of v shape) taken → Takes low (block_size_of v shape) a x given taken
       → Allocates im object frame order x a v shape low n least most given taken → Kept given
       → Changes low m.cells given
       → Will im p true m
       (LeavesWithin (record m { cells = given })
-      (whole_steps steps shape (size_of v shape) least)
-      (whole_steps steps shape (size_of v shape) most))
+      (whole_steps steps shape (block_size_of v shape) least)
+      (whole_steps steps shape (block_size_of v shape) most))
   pub not_nil_faults : slice_index m.cells a ≢ 0
       → Will im p false m (TrapsWithin NOT_NIL (steps + 2))
   pub full_faults : (most : ℕ) → IsLength v shape → slice_index m.cells a ≡ 0
@@ -176,31 +175,31 @@ pub record Makes (im : Image) (m : Memory) (object frame low n steps a v order :
       → slice_index m.cells x ≡ mark_of v shape → slice_index m.cells (x + 1) ≢ 1
       → Will im p true m (TrapsWithin COUNT (steps + 15))
   pub not_empty_faults : (x i : ℕ) → slice_index m.cells a ≡ x
-      → x + HEADER_WORDS + size_of v shape ≤ low
-      → x + HEADER_WORDS + size_of v shape < 2 ^ 31 → x ≢ 0
+      → x + HEADER_WORDS + block_size_of v shape ≤ low
+      → x + HEADER_WORDS + block_size_of v shape < 2 ^ 31 → x ≢ 0
       → slice_index m.cells x ≡ mark_of v shape
       → slice_index m.cells (x + COUNT_WORD) ≡ 1 → x + HEADER_WORDS ≤ i
-      → i < x + HEADER_WORDS + size_of v shape
+      → i < x + HEADER_WORDS + block_size_of v shape
       → slice_index m.cells i ≢ 0
-      → Will im p true m (TrapsWithin NOT_EMPTY (steps + (27 + 13 * size_of v shape)))
+      → Will im p true m (TrapsWithin NOT_EMPTY (steps + (27 + 13 * block_size_of v shape)))
 
 -- a new and a delete of an object with a class's table and so many fields, in a block of this order
 pub record ObjectLaw (spot : List ℕ → Spot) (free table fields order : ℕ) (target : Lvalue)
     (p : List Symbol) : Type 0 where
   pub makes : (im : Image) (m : Memory) (object frame a : ℕ)
       → m.regs ≡ registers 0 object frame 0 0 0 0 0
-      → CanRun spot free (place_words target) (lvalue_read target) (Null 0) m
+      → CanEvaluate spot free (place_words target) (lvalue_read target) (Null 0) m
       → place_address spot (bases_of m) m.cells target ≡ Ok a
       → update_shares spot (bases_of m) m.cells target (Null 0) ≡ false
       → Makes im m object frame (free_at free m) (place_words target) (found_place_steps target) a 0
       order
-      (Fixed table fields) (Stays spot (bases_of m) (free_at free m) target (Null 0) m.cells) p
+      (Fixed table fields) (UpdateStays spot (bases_of m) (free_at free m) target (Null 0) m.cells) p
   pub place_faults : (im : Image) (d : Bool) (m : Memory)
-      → CanRun spot free (place_words target) (lvalue_read target) (Null 0) m → (code : ℕ)
+      → CanEvaluate spot free (place_words target) (lvalue_read target) (Null 0) m → (code : ℕ)
       → place_address spot (bases_of m) m.cells target ≡ Err code
       → IsTrap im p d m code (place_steps target)
   pub sharing_faults : (im : Image) (d : Bool) (m : Memory)
-      → CanRun spot free (place_words target) (lvalue_read target) (Null 0) m → (a : ℕ)
+      → CanEvaluate spot free (place_words target) (lvalue_read target) (Null 0) m → (a : ℕ)
       → place_address spot (bases_of m) m.cells target ≡ Ok a
       → update_shares spot (bases_of m) m.cells target (Null 0) ≡ true
       → IsTrap im p d m SHARED_ARRAY (found_place_steps target)
@@ -211,32 +210,32 @@ pub record ArrayLaw (spot : List ℕ → Spot) (free : ℕ) (target : Lvalue) (s
     (p : List Symbol) : Type 0 where
   pub makes : (im : Image) (m : Memory) (object frame a v : ℕ)
       → m.regs ≡ registers 0 object frame 0 0 0 0 0
-      → CanRun spot free (place_words target + words size) (lvalue_read target) size m
+      → CanEvaluate spot free (place_words target + words size) (lvalue_read target) size m
       → place_address spot (bases_of m) m.cells target ≡ Ok a
       → number spot (bases_of m) m.cells size ≡ Ok v
       → update_shares spot (bases_of m) m.cells target size ≡ false
       → Makes im m object frame (free_at free m) (place_words target + words size)
       (found_value_steps target size) a v (order_for (HEADER_WORDS + v)) Lengthy
-      (Stays spot (bases_of m) (free_at free m) target size m.cells) p
+      (UpdateStays spot (bases_of m) (free_at free m) target size m.cells) p
   pub length_faults : (im : Image) (m : Memory) (object frame a v : ℕ)
       → m.regs ≡ registers 0 object frame 0 0 0 0 0
-      → CanRun spot free (place_words target + words size) (lvalue_read target) size m
+      → CanEvaluate spot free (place_words target + words size) (lvalue_read target) size m
       → place_address spot (bases_of m) m.cells target ≡ Ok a
       → number spot (bases_of m) m.cells size ≡ Ok v
       → update_shares spot (bases_of m) m.cells target size ≡ false → slice_index m.cells a ≡ 0
       → is_less 0 v ≡ false
       → Will im p false m (TrapsWithin LENGTH (found_value_steps target size + 5))
   pub place_faults : (im : Image) (d : Bool) (m : Memory)
-      → CanRun spot free (place_words target + words size) (lvalue_read target) size m → (code : ℕ)
+      → CanEvaluate spot free (place_words target + words size) (lvalue_read target) size m → (code : ℕ)
       → place_address spot (bases_of m) m.cells target ≡ Err code
       → IsTrap im p d m code (place_steps target)
   pub length_value_faults : (im : Image) (d : Bool) (m : Memory)
-      → CanRun spot free (place_words target + words size) (lvalue_read target) size m → (a code : ℕ)
+      → CanEvaluate spot free (place_words target + words size) (lvalue_read target) size m → (a code : ℕ)
       → place_address spot (bases_of m) m.cells target ≡ Ok a
       → number spot (bases_of m) m.cells size ≡ Err code
       → IsTrap im p d m code (place_steps target + fetch_steps size)
   pub sharing_faults : (im : Image) (d : Bool) (m : Memory)
-      → CanRun spot free (place_words target + words size) (lvalue_read target) size m → (a v : ℕ)
+      → CanEvaluate spot free (place_words target + words size) (lvalue_read target) size m → (a v : ℕ)
       → place_address spot (bases_of m) m.cells target ≡ Ok a
       → number spot (bases_of m) m.cells size ≡ Ok v
       → update_shares spot (bases_of m) m.cells target size ≡ true

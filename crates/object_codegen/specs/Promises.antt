@@ -14,7 +14,7 @@ use Rattle.expr_uncompute.specs.Code.{place_words}
 use Rattle.expr_uncompute.specs.register_expressions.Number.{lvalue_read, index_of, place_address, shares}
 use Rattle.expr_uncompute.specs.Steps.{place_steps}
 use Rattle.expr_uncompute.specs.register_expressions.Laws.{bases_of}
-use Rattle.expr_uncompute.specs.Promises.{free_at, CanRun, IsTrap}
+use Rattle.expr_uncompute.specs.Promises.{free_at, CanEvaluate, IsTrap}
 use Rattle.expr_uncompute.specs.Found.{LeavesWithin, TrapsWithin, PlacesStay, found_places_steps}
 
 -- ---- copies
@@ -62,7 +62,7 @@ pub record Shares (low p q x c : ℕ) (cells : List ℕ) : Type 0 where
 -- both places are found, and the second one shares no array
 pub record Places (spot : List ℕ → Spot) (free : ℕ) (source target : Lvalue) (m : Memory)
     (a a' : ℕ) : Type 0 where
-  pub can : CanRun spot free (place_words source + place_words target) (lvalue_read source)
+  pub can : CanEvaluate spot free (place_words source + place_words target) (lvalue_read source)
       (lvalue_read target) m
   pub source_at : place_address spot (bases_of m) m.cells source ≡ Ok a
   pub target_at : place_address spot (bases_of m) m.cells target ≡ Ok a'
@@ -93,18 +93,18 @@ pub record CopyLaw (spot : List ℕ → Spot) (free : ℕ) (source target : Lval
       (LeavesWithin (record m { cells = unreferring a' x c m.cells })
       (copy_steps source target) (copy_steps source target))
   pub source_faults : (im : Image) (d : Bool) (m : Memory)
-      → CanRun spot free (place_words source + place_words target) (lvalue_read source) (lvalue_read target)
+      → CanEvaluate spot free (place_words source + place_words target) (lvalue_read source) (lvalue_read target)
       m
       → (code : ℕ) → place_address spot (bases_of m) m.cells source ≡ Err code
       → IsTrap im p d m code (place_steps source)
   pub target_faults : (im : Image) (d : Bool) (m : Memory)
-      → CanRun spot free (place_words source + place_words target) (lvalue_read source) (lvalue_read target)
+      → CanEvaluate spot free (place_words source + place_words target) (lvalue_read source) (lvalue_read target)
       m
       → (a code : ℕ) → place_address spot (bases_of m) m.cells source ≡ Ok a
       → place_address spot (bases_of m) m.cells target ≡ Err code
       → IsTrap im p d m code (place_steps source + place_steps target)
   pub sharing_faults : (im : Image) (d : Bool) (m : Memory)
-      → CanRun spot free (place_words source + place_words target) (lvalue_read source) (lvalue_read target)
+      → CanEvaluate spot free (place_words source + place_words target) (lvalue_read source) (lvalue_read target)
       m
       → (a a' : ℕ) → place_address spot (bases_of m) m.cells source ≡ Ok a
       → place_address spot (bases_of m) m.cells target ≡ Ok a'

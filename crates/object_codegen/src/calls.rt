@@ -7,12 +7,12 @@ ghost use Rattle.rpp_tree.specs.Views.{expression_of, lvalue_of, creation_of, so
 ghost use Rattle.static_layout.specs.roopl_semantics.Elements.{index_elements, own_element, read_cost};
 ghost use Rattle.expr_uncompute.specs.register_expressions.Code.{words as words_of};
 ghost use Rattle.expr_uncompute.specs.Code.{place_words as words_of_place};
-ghost use Rattle.expr_uncompute.specs.register_expressions.Steps.{tokens};
+ghost use Rattle.expr_uncompute.specs.register_expressions.Steps.{token_count};
 ghost use Rattle.expr_uncompute.specs.Steps.{place_tokens};
 ghost use Rattle.refine_heap.specs.code_conventions.declared.memory.TheConstants.{HEADER_WORDS};
-ghost use Rattle.expr_uncompute.specs.code_scope.Visible.{spot_of, free_of, known_in};
+ghost use Rattle.expr_uncompute.specs.code_scope.Visible.{spot_of, free_words_of, known_in};
 ghost use Rattle.object_codegen.specs.News.{ObjectLaw, ArrayLaw};
-ghost use Rattle.object_codegen.specs.Creations.{NewLaw, creation_words, creation_size, class_of, fields_of};
+ghost use Rattle.object_codegen.specs.Creations.{NewLaw, creation_words, creation_size, created_class, created_fields};
 ghost use Rattle.object_codegen.specs.Promises.{CopyLaw, copy_steps};
 
 use crate::copies::copy_middle;
@@ -43,7 +43,7 @@ pub fn copy_code(
     requires room { words_of_place (lvalue_of source.now) + words_of_place (lvalue_of target.now) ≤
         EXPRESSION_WORDS }
     ensures law { IfOk result (λ p.
-        CopyLaw (spot_of (known_in scope.now)) (free_of (known_in scope.now))
+        CopyLaw (spot_of (known_in scope.now)) (free_words_of (known_in scope.now))
         (lvalue_of source.now) (lvalue_of target.now) p.cells) }
     ensures marks { IfOk result (λ p. p.marks ≡ []) }
     ensures steps { copy_steps (lvalue_of source.now) (lvalue_of target.now) ≤ 370 *
@@ -74,7 +74,7 @@ pub fn object_code(
 ) -> Result<Piece, NoMemory>
     requires room { words_of_place (lvalue_of place.now) ≤ EXPRESSION_WORDS }
     ensures law { IfOk result (λ p.
-        ObjectLaw (spot_of (known_in scope.now)) (free_of (known_in scope.now)) table fields order
+        ObjectLaw (spot_of (known_in scope.now)) (free_words_of (known_in scope.now)) table fields order
         (lvalue_of place.now) p.cells) }
     ensures marks { IfOk result (λ p. p.marks ≡ []) }
     ensures size { IfOk result (λ p. length p.cells ≤ 86 + 80 * (1 + place_tokens
@@ -97,11 +97,11 @@ pub fn array_code(
     requires room { words_of_place (lvalue_of place.now) + words_of (expression_of size.now) ≤
         EXPRESSION_WORDS }
     ensures law { IfOk result (λ p.
-        ArrayLaw (spot_of (known_in scope.now)) (free_of (known_in scope.now))
+        ArrayLaw (spot_of (known_in scope.now)) (free_words_of (known_in scope.now))
         (lvalue_of place.now) (expression_of size.now) p.cells) }
     ensures marks { IfOk result (λ p. p.marks ≡ []) }
     ensures size { IfOk result (λ p. length p.cells ≤ 164 + 80 *
-        (place_tokens (lvalue_of place.now) + tokens (expression_of size.now))) }
+        (place_tokens (lvalue_of place.now) + token_count (expression_of size.now))) }
 {
     let orders = order_code(alloc)?;
     let middle = new_middle(alloc, Shape::Lengthy, orders)?;
@@ -118,10 +118,10 @@ pub fn class_code(
 ) -> Result<Piece, NoMemory>
     requires room { words_of_place (lvalue_of place.now) ≤ EXPRESSION_WORDS }
     ensures law { IfOk result (λ p.
-        ObjectLaw (spot_of (known_in scope.now)) (free_of (known_in scope.now))
-        (address_of (source_of scope.now.program) (class_of (source_of scope.now.program) class.now))
-        (fields_of (source_of scope.now.program) class.now)
-        (order_for (HEADER_WORDS + fields_of (source_of scope.now.program) class.now))
+        ObjectLaw (spot_of (known_in scope.now)) (free_words_of (known_in scope.now))
+        (address_of (source_of scope.now.program) (created_class (source_of scope.now.program) class.now))
+        (created_fields (source_of scope.now.program) class.now)
+        (order_for (HEADER_WORDS + created_fields (source_of scope.now.program) class.now))
         (lvalue_of place.now) p.cells) }
     ensures marks { IfOk result (λ p. p.marks ≡ []) }
     ensures size { IfOk result (λ p. length p.cells ≤ 86 + 80 * (1 + place_tokens
@@ -140,7 +140,7 @@ pub fn class_code(
 pub fn new_code(alloc: Global, made: &Made, place: &Place, scope: &Scope) -> Result<Piece, NoMemory>
     requires room { creation_words (creation_of made.now) (lvalue_of place.now) ≤ EXPRESSION_WORDS }
     ensures law { IfOk result (λ p.
-        NewLaw (source_of scope.now.program) (spot_of (known_in scope.now)) (free_of
+        NewLaw (source_of scope.now.program) (spot_of (known_in scope.now)) (free_words_of
         (known_in scope.now)) (creation_of made.now) (lvalue_of place.now) p.cells) }
     ensures marks { IfOk result (λ p. p.marks ≡ []) }
     ensures size { IfOk result (λ p.

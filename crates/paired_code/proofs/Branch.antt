@@ -4,9 +4,9 @@ use Rattle.std.proofs.Common.{length-append}
 use Rattle.code_conventions.specs.pisa_isa.Machine.{Memory}
 use Rattle.code_conventions.specs.Cells.{bra}
 use Rattle.paired_code.specs.declared.part.Symbol.{Symbol}
-use Rattle.paired_code.specs.Machine.{Image, reg}
+use Rattle.paired_code.specs.Machine.{Image, memory_reg}
 use Rattle.paired_code.specs.Layout.{Frame, Stands, between, branch_cells}
-use Rattle.paired_code.specs.Pieces.{Outcome, Done, Will, around, around_no}
+use Rattle.paired_code.specs.Pieces.{Outcome, Done, Will, outcome_around, around_no}
 use Rattle.paired_code.proofs.Steps.{Has}
 use Rattle.paired_code.proofs.Ways.{front, rest, has, and_then, ends_wider, ends_around, Fork, fork_at, fork_passed}
 use Rattle.paired_code.proofs.Ways.{fork_taken, jump}
@@ -89,8 +89,8 @@ module _ (im : Image) (f : Frame) (r : ℕ) (p q : List Symbol) (i : ℕ) where
   whole = let len = branch_length in omega arith
 
 pub will_branch_yes : (im : Image) (d : Bool) (r : ℕ) (p q : List Symbol) (m : Memory) (Q Q' : Outcome → Type 0)
-    → reg m r ≢ 0 → Will im p d m Q → ((m1 : Memory) (k : ℕ) → Q (Done m1 k) → reg m1 r ≢ 0)
-    → ((o : Outcome) → Q o → Q' (around 3 3 o)) → Will im (branch_cells r p q) d m Q'
+    → memory_reg m r ≢ 0 → Will im p d m Q → ((m1 : Memory) (k : ℕ) → Q (Done m1 k) → memory_reg m1 r ≢ 0)
+    → ((o : Outcome) → Q o → Q' (outcome_around 3 3 o)) → Will im (branch_cells r p q) d m Q'
 will_branch_yes im false r p q m Q Q' nz run keeps t = record {
   will = λ f i h st.
       let w : i + length (branch_cells r p q) ≡ at_v im f r p q i + 1 + 1 = whole im f r p q i in
@@ -99,7 +99,7 @@ will_branch_yes im false r p q m Q Q' nz run keeps t = record {
       let a = run.will f (at_p im f r p q i) (omega arith) c.p_there in
       let x = fork_taken im f false i b r i (at_y im f r p q i) m (omega arith) (omega arith) (omega arith)
       (omega arith) (omega arith) (omega arith) (omega arith) nz c.t c.y in (
-        around 3 3 a.0,
+        outcome_around 3 3 a.0,
         ends_at refl (sym w) (ends_around x (ends_wider i b (omega arith) (omega arith) a.1)
             (λ m1 k e. fork_taken im f false i b r (at_u im f r p q i) (at_v im f r p q i) m1 (omega arith)
             (omega arith) (omega arith) (omega arith) (omega arith) (omega arith) (omega arith)
@@ -115,7 +115,7 @@ will_branch_yes im true r p q m Q Q' nz run keeps t = record {
       let a = run.will f (at_p im f r p q i) (omega arith) c.p_there in
       let x = fork_taken im f true i b r (at_v im f r p q i) (at_u im f r p q i) m (omega arith) (omega arith)
       (omega arith) (omega arith) (omega arith) (omega arith) (omega arith) nz c.v c.u in (
-        around 3 3 a.0,
+        outcome_around 3 3 a.0,
         ends_at (sym w) refl (ends_around x (ends_wider i b (omega arith) (omega arith) a.1)
             (λ m1 k e. fork_taken im f true i b r (at_y im f r p q i) i m1 (omega arith) (omega arith) (omega arith)
             (omega arith) (omega arith) (omega arith) (omega arith) (keeps m1 k (subst Q e a.2)) c.y c.t)),
@@ -124,7 +124,7 @@ will_branch_yes im true r p q m Q Q' nz run keeps t = record {
 }
 
 pub will_branch_no : (im : Image) (d : Bool) (r : ℕ) (p q : List Symbol) (m : Memory) (Q Q' : Outcome → Type 0)
-    → reg m r ≡ 0 → Will im q d m Q → ((m1 : Memory) (k : ℕ) → Q (Done m1 k) → reg m1 r ≡ 0)
+    → memory_reg m r ≡ 0 → Will im q d m Q → ((m1 : Memory) (k : ℕ) → Q (Done m1 k) → memory_reg m1 r ≡ 0)
     → ((o : Outcome) → Q o → Q' (around_no d o)) → Will im (branch_cells r p q) d m Q'
 will_branch_no im false r p q m Q Q' z run keeps t = record {
   will = λ f i h st.
@@ -133,7 +133,7 @@ will_branch_no im false r p q m Q Q' z run keeps t = record {
       let c = parts im f r p q i h st in
       let a = run.will f (at_q im f r p q i) (omega arith) c.q_there in
       let x = fork_passed im f false i b r i _ m (omega arith) (omega arith) z c.t in (
-        around 2 4 a.0,
+        outcome_around 2 4 a.0,
         ends_at refl (sym w) (ends_around x (ends_wider i b (omega arith) (omega arith) a.1)
             (λ m1 k e. and_then (jump im f false i b (at_n im f r p q i) (at_e im f r p q i) m1 (omega arith)
             (omega arith) (omega arith) (omega arith) (omega arith) (omega arith) (omega arith) c.n c.e)
@@ -151,7 +151,7 @@ will_branch_no im true r p q m Q Q' z run keeps t = record {
       let x = and_then (fork_passed im f true i b r (at_v im f r p q i) _ m (omega arith) (omega arith) z c.v)
       (jump im f true i b (at_e im f r p q i) (at_n im f r p q i) m (omega arith) (omega arith) (omega arith)
       (omega arith) (omega arith) (omega arith) (omega arith) c.e c.n) in (
-        around 4 2 a.0,
+        outcome_around 4 2 a.0,
         ends_at (sym w) refl (ends_around x (ends_wider i b (omega arith) (omega arith) a.1)
             (λ m1 k e. fork_passed im f true i b r i _ m1 (omega arith) (omega arith) (keeps m1 k (subst Q e a.2))
             c.t)),

@@ -16,11 +16,11 @@ use Rattle.paired_code.specs.declared.part.Symbol.TheVariants.{Enter}
 use Rattle.code_conventions.specs.rpp_words.Words.{sum_of, negated}
 use Rattle.code_conventions.specs.pisa_isa.Machine.{State, effect, stop_at, fetch, stride, moved, Memory}
 use Rattle.paired_code.proofs.Words.{along, turned, toward, first_br, second_br, goes_to, near, far, near_is, far_is}
-use Rattle.paired_code.specs.Machine.{state, Image, reg, with_reg, act, is_routine, is_end, change, Change, Same}
+use Rattle.paired_code.specs.Machine.{state, Image, memory_reg, memory_with_reg, act, is_routine, is_end, change, Change, Same}
 use Rattle.paired_code.specs.Machine.{Enters, Leaves, Level, same, enters, leaves}
-use Rattle.paired_code.specs.Layout.{xor, Frame, spot, place, at, between, resolved, code_line, Routine}
+use Rattle.paired_code.specs.Layout.{bool_xor, Frame, spot, frame_address, at, between, resolved, code_line, Routine}
 use Rattle.paired_code.specs.Pieces.{Inside, cell, open_call, in_flight, Path, stay, step, Outcome, Done, Trapped, Bad}
-use Rattle.paired_code.specs.Pieces.{Still, Way, Ends, finishes, traps, bad, still, Will, after, IsOver, near_end}
+use Rattle.paired_code.specs.Pieces.{Still, Way, Ends, finishes, traps, bad, still, Will, outcome_after, IsOutcomeOver, near_end}
 use Rattle.paired_code.specs.Pieces.{far_end}
 use Rattle.paired_code.specs.Laws.{lead}
 use Rattle.paired_code.proofs.Paths.{append, within_call}
@@ -42,7 +42,7 @@ acts_to c pc pc' br br' k k' m m' e g = ap moved e ∙ moved_is pc pc' br' k' m'
 
 -- ---- places
 
-pub on_line : (n : ℕ) → place code_line n ≡ pos n
+pub on_line : (n : ℕ) → frame_address code_line n ≡ pos n
 on_line n = omega (arith, ints)
 
 pub line_to : (d : Bool) (x y : ℕ) → x ≢ y → x < 2 ^ 30 → y < 2 ^ 30 → pos x +ℤ along d (stride (toward d x y)) ≡ pos y
@@ -72,7 +72,7 @@ call_cell false w = bra w
 call_cell true w = rbra w
 
 resolved_enter : (im : Image) (flip b : Bool) (r p top : ℕ) → slice_index im.routines r ≡ top
-    → resolved im flip (pos p) (Enter r b) ≡ call_cell (xor flip b) (between p top)
+    → resolved im flip (pos p) (Enter r b) ≡ call_cell (bool_xor flip b) (between p top)
 resolved_enter im false false r p top e = ap (λ t. bra (between p t)) e
 resolved_enter im false true r p top e = ap (λ t. rbra (between p t)) e
 resolved_enter im true false r p top e = ap (λ t. rbra (between p t)) e
@@ -84,14 +84,14 @@ call_word false w = w
 call_word true w = negated w
 
 call_acts : (kind d : Bool) (w br : ℕ) (pc : ℤ) (m : Memory)
-    → effect (call_cell kind w) (state pc br d m) ≡ state pc (call_word kind (sum_of br (turned d w))) (xor kind d) m
+    → effect (call_cell kind w) (state pc br d m) ≡ state pc (call_word kind (sum_of br (turned d w))) (bool_xor kind d) m
 call_acts false false w br pc m = refl
 call_acts false true w br pc m = refl
 call_acts true false w br pc m = refl
 call_acts true true w br pc m = refl
 
 pub swap_acts : (d : Bool) (br : ℕ) (pc : ℤ) (m : Memory)
-    → effect (swapbr 2) (state pc br d m) ≡ state pc (reg m 2) d (with_reg m 2 br)
+    → effect (swapbr 2) (state pc br d m) ≡ state pc (memory_reg m 2) d (memory_with_reg m 2 br)
 swap_acts false br pc m = refl
 swap_acts true br pc m = refl
 
@@ -108,7 +108,7 @@ call_level false w rs t = refl
 call_level true w rs t = refl
 
 call_br : (kind d : Bool) (p s : ℕ) → p ≢ s → p < 2 ^ 30 → s < 2 ^ 30
-    → call_word kind (sum_of 0 (turned d (between p s))) ≡ toward (xor kind d) p s
+    → call_word kind (sum_of 0 (turned d (between p s))) ≡ toward (bool_xor kind d) p s
 call_br false d p s ne hp hs = first_br false d p s ne hp hs
 call_br true false p s ne hp hs = omega arith
 call_br true true p s ne hp hs = omega arith
@@ -118,22 +118,22 @@ return_br : (kind d : Bool) (p s : ℕ) → s ≢ p → p < 2 ^ 30 → s < 2 ^ 3
 return_br false d p s ne hp hs = second_br false d s p ne hs hp
 return_br true d p s ne hp hs = ap negated (second_br false d s p ne hs hp)
 
-xor_twice : (a b : Bool) → xor a (xor a b) ≡ b
+xor_twice : (a b : Bool) → bool_xor a (bool_xor a b) ≡ b
 xor_twice false b = refl
 xor_twice true false = refl
 xor_twice true true = refl
 
 -- ---- in and out
 
-module _ (im : Image) (f : Frame) (d kind : Bool) (a b x p top : ℕ) (lo : a ≤ x) (hi : x < b) (at_p : place f x ≡ pos p)
+module _ (im : Image) (f : Frame) (d kind : Bool) (a b x p top : ℕ) (lo : a ≤ x) (hi : x < b) (at_p : frame_address f x ≡ pos p)
     (caller : fetch im.code (pos p) ≡ Some (call_cell kind (between p (top + 1))))
     (sub : fetch im.code (pos (top + 1)) ≡ Some (swapbr 2)) (known : is_routine im.routines (pos (top + 1)) ≡ true)
     (ne : p ≢ top + 1) (hp : p < 2 ^ 30) (hs : top + 1 < 2 ^ 30) where
   abbrev dir : Bool
-  dir = xor f.flip d
+  dir = bool_xor f.flip d
 
   abbrev way : Bool
-  way = xor kind dir
+  way = bool_xor kind dir
 
   inside_here : (br : ℕ) → Inside f a b 0 (pos p) br
   inside_here br = subst (λ z. Inside f a b 0 z br) at_p (cell x lo hi)
@@ -142,12 +142,12 @@ module _ (im : Image) (f : Frame) (d kind : Bool) (a b x p top : ℕ) (lo : a �
   flies false x y n h g = omega arith
   flies true x y n h g = omega arith
 
-  go_in : (m : Memory) → reg m 2 ≡ 0 → Path im f a b 2 0 (at f d (near d x) m) 1
-      (at code_line way (far way (top + 1)) (with_reg m 2 (toward way p (top + 1))))
+  go_in : (m : Memory) → memory_reg m 2 ≡ 0 → Path im f a b 2 0 (at f d (near d x) m) 1
+      (at code_line way (far way (top + 1)) (memory_with_reg m 2 (toward way p (top + 1))))
   go_in m z =
       let s0 = state (pos p) 0 dir m in
       let s1 = state (pos (top + 1)) (toward way p (top + 1)) way m in
-      let s2 = at code_line way (far way (top + 1)) (with_reg m 2 (toward way p (top + 1))) in
+      let s2 = at code_line way (far way (top + 1)) (memory_with_reg m 2 (toward way p (top + 1))) in
       let c = call_cell kind (between p (top + 1)) in
       let e1 : act c s0 ≡ s1 = acts_to c (pos p) (pos (top + 1)) 0 (toward way p (top + 1)) dir way m m
       (call_acts kind dir (between p (top + 1)) 0 (pos p) m
@@ -156,12 +156,12 @@ module _ (im : Image) (f : Frame) (d kind : Bool) (a b x p top : ℕ) (lo : a �
       let p1 = step_to im f a b 0 0 c Same s0 s1 (inside_here 0) caller (call_own kind (between p (top + 1)))
       (call_goes kind (between p (top + 1)) s0) (call_level kind (between p (top + 1)) im.routines s0) same e1 in
       let g : change im.routines (swapbr 2) s1 ≡ Enters = ap
-      (λ t. if t then (if nat_eq (reg m 2) 0 then Enters else Leaves) else Same) known
+      (λ t. if t then (if nat_eq (memory_reg m 2) 0 then Enters else Leaves) else Same) known
       ∙ ap (λ n. if nat_eq n 0 then Enters else Leaves) z in
       let fr : pos (top + 1) +ℤ along way (stride 0) ≡ spot false way (pos 0) (far way (top + 1)) =
       subst (λ z. z +ℤ along way (pos 1) ≡ spot false way (pos 0) (far way (top + 1))) (on_line (top + 1))
       (far_is false way (pos 0) (top + 1)) in
-      let m1 = with_reg m 2 (toward way p (top + 1)) in
+      let m1 = memory_with_reg m 2 (toward way p (top + 1)) in
       let e2 : act (swapbr 2) s1 ≡ s2 = acts_to (swapbr 2) (pos (top + 1)) (spot false way (pos 0) (far way (top + 1)))
       (toward way p (top + 1)) 0 way way m m1 (swap_acts way (toward way p (top + 1)) (pos (top + 1)) m
       ∙ ap (λ n. state (pos (top + 1)) n way m1) z) fr in
@@ -170,10 +170,10 @@ module _ (im : Image) (f : Frame) (d kind : Bool) (a b x p top : ℕ) (lo : a �
       let start : spot f.flip d f.base (near d x) ≡ pos p = near_is f.flip d f.base x ∙ at_p in
       subst (λ z. Path im f a b 2 0 (state z 0 dir m) 1 s2) (sym start) (append p1 p2)
 
-  go_out : (m : Memory) → reg m 2 ≡ toward way (top + 1) p
-      → Path im f a b 2 1 (at code_line way (near way (top + 1)) m) 0 (at f d (far d x) (with_reg m 2 0))
+  go_out : (m : Memory) → memory_reg m 2 ≡ toward way (top + 1) p
+      → Path im f a b 2 1 (at code_line way (near way (top + 1)) m) 0 (at f d (far d x) (memory_with_reg m 2 0))
   go_out m z =
-      let n = with_reg m 2 0 in
+      let n = memory_with_reg m 2 0 in
       let s0 = state (pos (top + 1)) 0 way m in
       let s1 = state (pos p) (toward way (top + 1) p) way n in
       let s2 = at f d (far d x) n in
@@ -182,18 +182,18 @@ module _ (im : Image) (f : Frame) (d kind : Bool) (a b x p top : ℕ) (lo : a �
       let fly = flies way (top + 1) p en hs hp in
       let nz : nat_eq (toward way (top + 1) p) 0 ≡ false = grind (arith, nat_tests) in
       let g : change im.routines (swapbr 2) s0 ≡ Leaves = ap
-      (λ t. if t then (if nat_eq (reg m 2) 0 then Enters else Leaves) else Same) known
+      (λ t. if t then (if nat_eq (memory_reg m 2) 0 then Enters else Leaves) else Same) known
       ∙ ap (λ n. if nat_eq n 0 then Enters else Leaves) z ∙ ap (λ t. if t then Enters else Leaves) nz in
       let e1 : act (swapbr 2) s0 ≡ s1 = acts_to (swapbr 2) (pos (top + 1)) (pos p) 0 (toward way (top + 1) p) way way m
       n (swap_acts way 0 (pos (top + 1)) m ∙ ap (λ v. state (pos (top + 1)) v way n) z)
       (line_to way (top + 1) p en hs hp) in
       let p1 = step_to im f a b 1 0 (swapbr 2) Leaves s0 s1 open_call sub refl refl g leaves e1 in
-      let bk : xor kind way ≡ dir = xor_twice kind dir in
+      let bk : bool_xor kind way ≡ dir = xor_twice kind dir in
       let fr : pos p +ℤ along dir (stride 0) ≡ spot f.flip d f.base (far d x) =
       subst (λ z. z +ℤ along dir (pos 1) ≡ spot f.flip d f.base (far d x)) at_p (far_is f.flip d f.base x) in
       let e2 : act c s1 ≡ s2 = acts_to c (pos p) (spot f.flip d f.base (far d x)) (toward way (top + 1) p) 0 way dir n n
       (call_acts kind way (between p (top + 1)) (toward way (top + 1) p) (pos p) n
-      ∙ ap (λ v. state (pos p) v (xor kind way) n) (return_br kind way p (top + 1) en hp hs)
+      ∙ ap (λ v. state (pos p) v (bool_xor kind way) n) (return_br kind way p (top + 1) en hp hs)
       ∙ ap (λ k. state (pos p) 0 k n) bk) fr in
       let p2 = step_to im f a b 0 0 c Same s1 s2 (inside_here _) caller (call_own kind (between p (top + 1)))
       (call_goes kind (between p (top + 1)) s1) (call_level kind (between p (top + 1)) im.routines s1) same e2 in
@@ -208,10 +208,10 @@ set_set [] i x y = refl
 set_set (a ∷ l) zero x y = refl
 set_set (a ∷ l) (suc i) x y = ap (λ t. a ∷ t) (set_set l i x y)
 
-pub reg_same : (m : Memory) (w : ℕ) → 2 < length m.regs → reg (with_reg m 2 w) 2 ≡ w
+pub reg_same : (m : Memory) (w : ℕ) → 2 < length m.regs → memory_reg (memory_with_reg m 2 w) 2 ≡ w
 reg_same m w h = get_or-set_same m.regs 2 w 0 h
 
-pub with_twice : (m : Memory) (x y : ℕ) → with_reg (with_reg m 2 x) 2 y ≡ with_reg m 2 y
+pub with_twice : (m : Memory) (x y : ℕ) → memory_with_reg (memory_with_reg m 2 x) 2 y ≡ memory_with_reg m 2 y
 with_twice m x y = ap (λ l. record m { regs = l }) (set_set m.regs 2 x y)
 
 -- a register that holds no 0 is there
@@ -222,7 +222,7 @@ there (a ∷ l) (suc i) w h g = let r = there l i w h g in omega arith
 
 -- what is to hold after the body, which leaves $2 as it found it
 abbrev pub Returns : ℕ → Bool → (Outcome → Type 0) → Outcome → Type 0
-Returns w d Q (Done m k) = (reg m 2 ≡ w) × Q (Done (with_reg m 2 0) (k + 7))
+Returns w d Q (Done m k) = (memory_reg m 2 ≡ w) × Q (Done (memory_with_reg m 2 0) (k + 7))
 Returns w d Q (Trapped v k) = Q (Trapped v (lead d + k))
 Returns w d Q (Bad v k) = Q (Bad v (lead d + k))
 Returns w d Q (Still k) = Q (Still (lead d + k))
@@ -250,15 +250,15 @@ module _ (im : Image) (r top : ℕ) (body : List Symbol) (t : Routine im r top b
       (omega arith) t.top_cell t.bot_cell
 
   pub negates : (d : Bool) (m : Memory) → Way im code_line d top (bot + 1) 1 (near d (top + 1 + 1)) m
-      (far d (top + 1 + 1)) (with_reg m 2 (negated (reg m 2)))
+      (far d (top + 1 + 1)) (memory_with_reg m 2 (negated (memory_reg m 2)))
   negates false m = calm_way im code_line false top (bot + 1) (top + 1 + 1) (neg 2) m _ (omega arith) (omega arith)
       t.neg_cell (calm_single false false (neg 2) m refl (omega arith) refl)
   negates true m = calm_way im code_line true top (bot + 1) (top + 1 + 1) (neg 2) m _ (omega arith) (omega arith)
       t.neg_cell (calm_single false true (neg 2) m refl (omega arith) refl)
 
-  module _ (f : Frame) (d kind : Bool) (a b x p : ℕ) (lo : a ≤ x) (hi : x < b) (at_p : place f x ≡ pos p)
+  module _ (f : Frame) (d kind : Bool) (a b x p : ℕ) (lo : a ≤ x) (hi : x < b) (at_p : frame_address f x ≡ pos p)
       (caller : fetch im.code (pos p) ≡ Some (call_cell kind (between p (top + 1)))) (ne : p ≢ top + 1)
-      (hp : p < 2 ^ 30) (back : Bool) (eq : xor kind (xor f.flip d) ≡ back) where
+      (hp : p < 2 ^ 30) (back : Bool) (eq : bool_xor kind (bool_xor f.flip d) ≡ back) where
     hs : top + 1 < 2 ^ 30
     hs = let s = t.small in omega arith
 
@@ -266,29 +266,29 @@ module _ (im : Image) (r top : ℕ) (body : List Symbol) (t : Routine im r top b
     sub = subst (λ z. fetch im.code z ≡ Some (swapbr 2)) (on_line (top + 1)) t.sub_cell
 
     -- from the caller's cell into the routine, and out of it
-    pub enter_path : (m : Memory) → reg m 2 ≡ 0 → Path im f a b 2 0 (at f d (near d x) m) 1
-        (at code_line back (far back (top + 1)) (with_reg m 2 (toward back p (top + 1))))
+    pub enter_path : (m : Memory) → memory_reg m 2 ≡ 0 → Path im f a b 2 0 (at f d (near d x) m) 1
+        (at code_line back (far back (top + 1)) (memory_with_reg m 2 (toward back p (top + 1))))
     enter_path m z = subst (λ y. Path im f a b 2 0 (at f d (near d x) m) 1
-        (at code_line y (far y (top + 1)) (with_reg m 2 (toward y p (top + 1))))) eq
+        (at code_line y (far y (top + 1)) (memory_with_reg m 2 (toward y p (top + 1))))) eq
         (go_in im f d kind a b x p top lo hi at_p caller sub t.known ne hp hs m z)
 
-    pub leave_path : (m : Memory) → reg m 2 ≡ toward back (top + 1) p
-        → Path im f a b 2 1 (at code_line back (near back (top + 1)) m) 0 (at f d (far d x) (with_reg m 2 0))
+    pub leave_path : (m : Memory) → memory_reg m 2 ≡ toward back (top + 1) p
+        → Path im f a b 2 1 (at code_line back (near back (top + 1)) m) 0 (at f d (far d x) (memory_with_reg m 2 0))
     leave_path m z = subst (λ y. Path im f a b 2 1 (at code_line y (near y (top + 1)) m) 0
-        (at f d (far d x) (with_reg m 2 0))) eq (go_out im f d kind a b x p top lo hi at_p caller sub t.known ne hp hs
+        (at f d (far d x) (memory_with_reg m 2 0))) eq (go_out im f d kind a b x p top lo hi at_p caller sub t.known ne hp hs
         m (z ∙ sym (ap (λ y. toward y (top + 1) p) eq)))
 
     -- all of it, given what the routine does between
-    whole : (k : ℕ) (m m1 : Memory) → reg m 2 ≡ 0 → reg m1 2 ≡ toward back (top + 1) p
-        → Way im code_line back top (bot + 1) k (far back (top + 1)) (with_reg m 2 (toward back p (top + 1)))
-        (near back (top + 1)) m1 → Way im f d a b (2 + (k + 2)) (near d x) m (far d x) (with_reg m1 2 0)
+    whole : (k : ℕ) (m m1 : Memory) → memory_reg m 2 ≡ 0 → memory_reg m1 2 ≡ toward back (top + 1) p
+        → Way im code_line back top (bot + 1) k (far back (top + 1)) (memory_with_reg m 2 (toward back p (top + 1)))
+        (near back (top + 1)) m1 → Way im f d a b (2 + (k + 2)) (near d x) m (far d x) (memory_with_reg m1 2 0)
     whole k m m1 z z1 w = record {
       path = append (enter_path m z) (append (within_call f a b w.path) (leave_path m1 z1));
     }
 
-    within : (m : Memory) (j : ℕ) (o : Outcome) → reg m 2 ≡ 0 → IsOver o
-        → Ends im code_line back top (bot + 1) (far back (top + 1)) (with_reg m 2 (toward back p (top + 1))) j o
-        → Ends im f d a b (near d x) m (far d x) (after 2 o)
+    within : (m : Memory) (j : ℕ) (o : Outcome) → memory_reg m 2 ≡ 0 → IsOutcomeOver o
+        → Ends im code_line back top (bot + 1) (far back (top + 1)) (memory_with_reg m 2 (toward back p (top + 1))) j o
+        → Ends im f d a b (near d x) m (far d x) (outcome_after 2 o)
     within m j (Done m1 k) z v (finishes w) = absurd v
     within m j (Trapped y k) z v (traps h) = traps (record {
       last = h.last;
@@ -324,9 +324,9 @@ pub between_positive : (x y : ℕ) → x ≢ y → x < 2 ^ 30 → y < 2 ^ 30 →
 between_positive x y n h k = omega arith
 
 module _ (im : Image) (r top : ℕ) (body : List Symbol) (t : Routine im r top body) (f : Frame) (d kind : Bool)
-    (a b x p : ℕ) (lo : a ≤ x) (hi : x < b) (at_p : place f x ≡ pos p)
+    (a b x p : ℕ) (lo : a ≤ x) (hi : x < b) (at_p : frame_address f x ≡ pos p)
     (caller : fetch im.code (pos p) ≡ Some (call_cell kind (between p (top + 1)))) (ne : p ≢ top + 1) (hp : p < 2 ^ 30)
-    (m : Memory) (z : reg m 2 ≡ 0) (room : 2 < length m.regs) (Q : Outcome → Type 0) where
+    (m : Memory) (z : memory_reg m 2 ≡ 0) (room : 2 < length m.regs) (Q : Outcome → Type 0) where
   abbrev s : ℕ
   s = top + 1
 
@@ -346,27 +346,27 @@ module _ (im : Image) (r top : ℕ) (body : List Symbol) (t : Routine im r top b
   sne e = ne (sym e)
 
   -- forward: NEG, the body, the jump
-  along_body : (eq : xor kind (xor f.flip d) ≡ false) (o : Outcome)
-      → Ends im code_line false b0 b1 b0 (with_reg m 2 w) b1 o → Returns w false Q o
+  along_body : (eq : bool_xor kind (bool_xor f.flip d) ≡ false) (o : Outcome)
+      → Ends im code_line false b0 b1 b0 (memory_with_reg m 2 w) b1 o → Returns w false Q o
       → (o : Outcome) × Ends im f d a b (near d x) m (far d x) o × Q o
   along_body eq o h q = go o (ends_wider top (b1 + 1) (omega arith) (omega arith) h) q
     where
-      first : Way im code_line false top (b1 + 1) 1 (top + 1 + 1) (with_reg m 2 (between p (top + 1))) b0
-          (with_reg m 2 w)
+      first : Way im code_line false top (b1 + 1) 1 (top + 1 + 1) (memory_with_reg m 2 (between p (top + 1))) b0
+          (memory_with_reg m 2 w)
       first =
-          let e : with_reg (with_reg m 2 (between p (top + 1))) 2 (negated (reg (with_reg m 2 (between p (top + 1))) 2))
-          ≡ with_reg m 2 w = with_twice m _ _ ∙ ap (λ v. with_reg m 2 (negated v)) (reg_same m _ room)
-          ∙ ap (with_reg m 2) (neg_between p (top + 1) ne hp hs') in
-          subst (λ y. Way im code_line false top (b1 + 1) 1 (top + 1 + 1) (with_reg m 2 (between p (top + 1))) b0 y) e
-          (negates im r top body t false (with_reg m 2 (between p (top + 1))))
+          let e : memory_with_reg (memory_with_reg m 2 (between p (top + 1))) 2 (negated (memory_reg (memory_with_reg m 2 (between p (top + 1))) 2))
+          ≡ memory_with_reg m 2 w = with_twice m _ _ ∙ ap (λ v. memory_with_reg m 2 (negated v)) (reg_same m _ room)
+          ∙ ap (memory_with_reg m 2) (neg_between p (top + 1) ne hp hs') in
+          subst (λ y. Way im code_line false top (b1 + 1) 1 (top + 1 + 1) (memory_with_reg m 2 (between p (top + 1))) b0 y) e
+          (negates im r top body t false (memory_with_reg m 2 (between p (top + 1))))
 
-      go : (o : Outcome) → Ends im code_line false top (b1 + 1) b0 (with_reg m 2 w) b1 o → Returns w false Q o
+      go : (o : Outcome) → Ends im code_line false top (b1 + 1) b0 (memory_with_reg m 2 w) b1 o → Returns w false Q o
           → (o : Outcome) × Ends im f d a b (near d x) m (far d x) o × Q o
       go (Done m1 k) (finishes v) q =
           let mid = and_then first (and_then v (ends_jump im r top body t false m1)) in
           let all = whole im r top body t f d kind a b x p lo hi at_p caller ne hp false eq (1 + (k + 2)) m m1 z q.0 mid
           in (
-            Done (with_reg m1 2 0) (k + 7),
+            Done (memory_with_reg m1 2 0) (k + 7),
             finishes (from_to (let c : 2 + (1 + (k + 2) + 2) ≡ k + 7 = omega arith in c)
                 refl refl all),
             q.1,
@@ -396,26 +396,26 @@ module _ (im : Image) (r top : ℕ) (body : List Symbol) (t : Routine im r top b
       )
 
   -- back: the jump, the body, NEG
-  back_body : (eq : xor kind (xor f.flip d) ≡ true) (o : Outcome)
-      → Ends im code_line true b0 b1 b1 (with_reg m 2 w) b0 o → Returns w true Q o
+  back_body : (eq : bool_xor kind (bool_xor f.flip d) ≡ true) (o : Outcome)
+      → Ends im code_line true b0 b1 b1 (memory_with_reg m 2 w) b0 o → Returns w true Q o
       → (o : Outcome) × Ends im f d a b (near d x) m (far d x) o × Q o
   back_body eq o h q = go o (ends_wider top (b1 + 1) (omega arith) (omega arith) h) q
     where
-      first : Way im code_line true top (b1 + 1) 2 (top + 1) (with_reg m 2 w) b1 (with_reg m 2 w)
-      first = ends_jump im r top body t true (with_reg m 2 w)
+      first : Way im code_line true top (b1 + 1) 2 (top + 1) (memory_with_reg m 2 w) b1 (memory_with_reg m 2 w)
+      first = ends_jump im r top body t true (memory_with_reg m 2 w)
 
-      go : (o : Outcome) → Ends im code_line true top (b1 + 1) b1 (with_reg m 2 w) b0 o → Returns w true Q o
+      go : (o : Outcome) → Ends im code_line true top (b1 + 1) b1 (memory_with_reg m 2 w) b0 o → Returns w true Q o
           → (o : Outcome) × Ends im f d a b (near d x) m (far d x) o × Q o
       go (Done m1 k) (finishes v) q =
           let wide : 2 < length m1.regs = there m1.regs 2 w q.0 (between_positive (top + 1) p sne hs' hp) in
-          let m2 = with_reg m1 2 (negated (reg m1 2)) in
-          let out : reg m2 2 ≡ between p (top + 1) = reg_same m1 _ wide ∙ ap negated q.0
+          let m2 = memory_with_reg m1 2 (negated (memory_reg m1 2)) in
+          let out : memory_reg m2 2 ≡ between p (top + 1) = reg_same m1 _ wide ∙ ap negated q.0
           ∙ neg_between (top + 1) p sne hs' hp in
           let mid = and_then first (and_then v (negates im r top body t true m1)) in
           let all = whole im r top body t f d kind a b x p lo hi at_p caller ne hp true eq (2 + (k + 1)) m m2 z out mid
           in
           let all' = from_to (let c : 2 + (2 + (k + 1) + 2) ≡ k + 7 = omega arith in c) refl refl all in (
-            Done (with_reg m1 2 0) (k + 7),
+            Done (memory_with_reg m1 2 0) (k + 7),
             finishes (subst (λ y. Way im f d a b (k + 7) (near d x) m (far d x) y)
                 (with_twice m1 _ 0) all'),
             q.1,
@@ -444,12 +444,12 @@ module _ (im : Image) (r top : ℕ) (body : List Symbol) (t : Routine im r top b
         q,
       )
 
-  called : (way : Bool) (eq : xor kind (xor f.flip d) ≡ way) → Will im body way (with_reg m 2 w) (Returns w way Q)
+  called : (way : Bool) (eq : bool_xor kind (bool_xor f.flip d) ≡ way) → Will im body way (memory_with_reg m 2 w) (Returns w way Q)
       → (o : Outcome) × Ends im f d a b (near d x) m (far d x) o × Q o
   called false eq h = let e = h.will code_line b0 t.small t.body_there in along_body eq e.0 e.1 e.2
   called true eq h = let e = h.will code_line b0 t.small t.body_there in back_body eq e.0 e.1 e.2
 
-way_is : (flip b d : Bool) → xor (xor flip b) (xor flip d) ≡ xor b d
+way_is : (flip b d : Bool) → bool_xor (bool_xor flip b) (bool_xor flip d) ≡ bool_xor b d
 way_is false b d = refl
 way_is true false false = refl
 way_is true false true = refl
@@ -480,23 +480,23 @@ between_small x y = omega arith
 
 -- the link is a word that is not 0
 pub will_enter : (im : Image) (r top : ℕ) (body : List Symbol) (b d : Bool) (m : Memory) (Q : Outcome → Type 0)
-    → Routine im r top body → length im.code < 2 ^ 30 → 2 < length m.regs → reg m 2 ≡ 0
-    → ((w : ℕ) → 0 < w → w < 2 ^ 32 → Will im body (xor b d) (with_reg m 2 w) (Returns w (xor b d) Q))
+    → Routine im r top body → length im.code < 2 ^ 30 → 2 < length m.regs → memory_reg m 2 ≡ 0
+    → ((w : ℕ) → 0 < w → w < 2 ^ 32 → Will im body (bool_xor b d) (memory_with_reg m 2 w) (Returns w (bool_xor b d) Q))
     → Will im (Enter r b ∷ []) d m Q
 will_enter im r top body b d m Q t small room z h = record {
   will = λ f i l st.
-      let c = cell_place im.code (place f i) (resolved im f.flip (place f i) (Enter r b)) st.0 in
+      let c = cell_place im.code (frame_address f i) (resolved im f.flip (frame_address f i) (Enter r b)) st.0 in
       let p = c.0 in
-      let caller : fetch im.code (pos p) ≡ Some (call_cell (xor f.flip b) (between p (top + 1))) =
+      let caller : fetch im.code (pos p) ≡ Some (call_cell (bool_xor f.flip b) (between p (top + 1))) =
       subst (λ z. fetch im.code z ≡ Some (resolved im f.flip z (Enter r b))) c.1 st.0
       ∙ ap Some (resolved_enter im f.flip b r p (top + 1) t.listed) in
       let sub : fetch im.code (pos (top + 1)) ≡ Some (swapbr 2) =
       subst (λ z. fetch im.code z ≡ Some (swapbr 2)) (on_line (top + 1)) t.sub_cell in
-      let ne : p ≢ top + 1 = apart im (xor f.flip b) (between p (top + 1)) p (top + 1) caller sub in
+      let ne : p ≢ top + 1 = apart im (bool_xor f.flip b) (between p (top + 1)) p (top + 1) caller sub in
       let hp : p < 2 ^ 30 = omega (arith, c.2) in
       let hs : top + 1 < 2 ^ 30 = (let s = t.small in omega arith) in
       let sne : top + 1 ≢ p = λ e. ne (sym e) in
-      gaps im f d i m Q (called im r top body t f d (xor f.flip b) i (i + 1) i p (omega arith) (omega arith) c.1 caller
-      ne hp m z room Q (xor b d) (way_is f.flip b d) (h (between (top + 1) p)
+      gaps im f d i m Q (called im r top body t f d (bool_xor f.flip b) i (i + 1) i p (omega arith) (omega arith) c.1 caller
+      ne hp m z room Q (bool_xor b d) (way_is f.flip b d) (h (between (top + 1) p)
       (between_positive (top + 1) p sne hs hp) (between_small (top + 1) p)));
 }

@@ -9,10 +9,10 @@ use Rattle.code_conventions.specs.rpp_words.Words.{is_less}
 use Rattle.code_conventions.specs.pisa_isa.declared.machine.Stop.TheVariants.{Trap}
 use Rattle.code_conventions.specs.pisa_isa.Machine.{stop_at, fetch, Memory}
 use Rattle.paired_code.specs.Cells.{data_word}
-use Rattle.paired_code.specs.Machine.{Image, reg}
-use Rattle.paired_code.specs.Layout.{Frame, place, at, Stands, between, Test, Equal, Differ, Positive}
+use Rattle.paired_code.specs.Machine.{Image, memory_reg}
+use Rattle.paired_code.specs.Layout.{Frame, frame_address, at, Stands, between, Test, Equal, Differ, Positive}
 use Rattle.paired_code.specs.Layout.{branch_of, test_cells}
-use Rattle.paired_code.specs.Laws.{Passes, Fails}
+use Rattle.paired_code.specs.Laws.{TestPasses, TestFails}
 use Rattle.paired_code.specs.Pieces.{Inside, cell, Done, Trapped, Way, Halts, finishes, traps, Runs, near_end, far_end}
 use Rattle.paired_code.proofs.Words.{is_positive, near, near_is}
 use Rattle.paired_code.proofs.Steps.{oriented, either_way, Takes, Calm, Has, calm_way, hop_way, takes_eq, calm_eq}
@@ -27,7 +27,7 @@ data_is true code = ap data_word (either_way (nat_lt code (2 ^ 32)) code)
 module _ (im : Image) (f : Frame) (i code : ℕ) (t : Test) where
   record Guard : Type 0 where
     first : Has im f i (branch_of t (between i (i + 2)))
-    trap : fetch im.code (place f (i + 1)) ≡ Some (data_word code)
+    trap : fetch im.code (frame_address f (i + 1)) ≡ Some (data_word code)
     last : Has im f (i + 2) (branch_of t (between (i + 2) i))
 
   guard : i + 3 < 2 ^ 30 → Stands im f i (test_cells t code) → Guard
@@ -88,25 +88,25 @@ positive_is_less : (w : ℕ) → is_positive w ≡ is_less 0 w
 positive_is_less w = ⊎_elim (λ l. grind (arith, ints, nat_tests)) (λ g. grind (arith, ints, nat_tests))
     (cases_lt w (2 ^ 31))
 
-taken : (flip : Bool) (t : Test) (m : Memory) (w : ℕ) → Passes t m → Takes flip (branch_of t w) m w
-taken flip (Equal r s) m w h = takes_eq flip r s m w (equal_words (reg m r) (reg m s) h)
-taken flip (Differ r s) m w h = takes_ne flip r s m w (other_words (reg m r) (reg m s) h)
-taken flip (Positive r) m w h = takes_gt flip r m w (positive_is_less (reg m r) ∙ h)
+taken : (flip : Bool) (t : Test) (m : Memory) (w : ℕ) → TestPasses t m → Takes flip (branch_of t w) m w
+taken flip (Equal r s) m w h = takes_eq flip r s m w (equal_words (memory_reg m r) (memory_reg m s) h)
+taken flip (Differ r s) m w h = takes_ne flip r s m w (other_words (memory_reg m r) (memory_reg m s) h)
+taken flip (Positive r) m w h = takes_gt flip r m w (positive_is_less (memory_reg m r) ∙ h)
 
-not_taken : (flip d : Bool) (t : Test) (m : Memory) (w : ℕ) → Fails t m → Calm flip d (branch_of t w) m m
-not_taken flip d (Equal r s) m w h = calm_eq flip d r s m w (other_words (reg m r) (reg m s) h)
-not_taken flip d (Differ r s) m w h = calm_ne flip d r s m w (equal_words (reg m r) (reg m s) h)
-not_taken flip d (Positive r) m w h = calm_gt flip d r m w (positive_is_less (reg m r) ∙ h)
+not_taken : (flip d : Bool) (t : Test) (m : Memory) (w : ℕ) → TestFails t m → Calm flip d (branch_of t w) m m
+not_taken flip d (Equal r s) m w h = calm_eq flip d r s m w (other_words (memory_reg m r) (memory_reg m s) h)
+not_taken flip d (Differ r s) m w h = calm_ne flip d r s m w (equal_words (memory_reg m r) (memory_reg m s) h)
+not_taken flip d (Positive r) m w h = calm_gt flip d r m w (positive_is_less (memory_reg m r) ∙ h)
 
 -- if the test passes, nothing happens
-pub runs_passes : (im : Image) (d : Bool) (t : Test) (code : ℕ) (m : Memory) → Passes t m
+pub runs_passes : (im : Image) (d : Bool) (t : Test) (code : ℕ) (m : Memory) → TestPasses t m
     → Runs im (test_cells t code) d m (Done m 2)
 runs_passes im d t code m h = record {
   run = λ f i l st. finishes (passed im f i code t l (guard im f i code t l st) m (λ w. taken f.flip t m w h) d);
 }
 
 -- if it fails, the DATA cell stops the run
-pub runs_fails : (im : Image) (d : Bool) (t : Test) (code : ℕ) (m : Memory) → Fails t m
+pub runs_fails : (im : Image) (d : Bool) (t : Test) (code : ℕ) (m : Memory) → TestFails t m
     → Runs im (test_cells t code) d m (Trapped code 1)
 runs_fails im d t code m h = record {
   run = λ f i l st. traps (stopped im f i code t l (guard im f i code t l st) m

@@ -6,15 +6,15 @@ use Rattle.code_conventions.specs.pisa_isa.declared.cell.Cell.{Cell}
 use Rattle.paired_code.specs.declared.part.Symbol.{Symbol}
 use Rattle.paired_code.specs.declared.part.Symbol.TheVariants.{Own}
 use Rattle.code_conventions.specs.pisa_isa.Machine.{State, Memory}
-use Rattle.paired_code.specs.Machine.{Image, effect_along, reg}
-use Rattle.paired_code.specs.Layout.{xor, code_line, at, Stands}
-use Rattle.paired_code.specs.Pieces.{Outcome, Done, Trapped, Bad, Still, Ends, finishes, traps, bad, still, Will, after}
-use Rattle.paired_code.specs.Pieces.{around, around_no, to_tail, to_head, near_end, far_end}
-use Rattle.paired_code.specs.Laws.{outcome_of, Passes, Fails, lead}
-use Rattle.paired_code.specs.Literal.{Stays}
+use Rattle.paired_code.specs.Machine.{Image, effect_along, memory_reg}
+use Rattle.paired_code.specs.Layout.{bool_xor, code_line, at, Stands}
+use Rattle.paired_code.specs.Pieces.{Outcome, Done, Trapped, Bad, Still, Ends, finishes, traps, bad, still, Will, outcome_after}
+use Rattle.paired_code.specs.Pieces.{outcome_around, around_no, to_tail, to_head, near_end, far_end}
+use Rattle.paired_code.specs.Laws.{outcome_of, TestPasses, TestFails, lead}
+use Rattle.paired_code.specs.Literal.{LiteralStays}
 use Rattle.paired_code.specs.Closed as four
 use Rattle.paired_code.specs.Closed.{Shape, Nothing, One, Then, Turned, Choose, Loop, Check, Try, Call, Call_at}
-use Rattle.paired_code.specs.Closed.{cells_of_shape, IsMade, Routines, Stand, And_next, Left, Back, Back_at}
+use Rattle.paired_code.specs.Closed.{cells_of_shape, IsShapeMade, Routines, RoutinesStand, And_next, Left, Back, Back_at}
 use Rattle.paired_code.specs.Closed.{rounds_fine, fine_with, fine, any, One_of_four, Closed}
 use Rattle.code_conventions.proofs.pisa_isa_laws.Ranges.{imm_word}
 use Rattle.paired_code.proofs.Steps.{has_its_cell}
@@ -38,13 +38,13 @@ Sure n (Still k) = n ≤ k
 abbrev pub Both : (Outcome → Type 0) → ℕ → Outcome → Type 0
 Both Q n o = Q o × Sure n o
 
-sure_after : (j n c : ℕ) (o : Outcome) → j ≤ n + c → Sure n o → Sure j (after c o)
+sure_after : (j n c : ℕ) (o : Outcome) → j ≤ n + c → Sure n o → Sure j (outcome_after c o)
 sure_after j n c (Done m k) h s = tt
 sure_after j n c (Trapped w k) h s = tt
 sure_after j n c (Bad a k) h s = tt
 sure_after j n c (Still k) h s = omega arith
 
-sure_around : (n x y : ℕ) (o : Outcome) → Sure n o → Sure n (around x y o)
+sure_around : (n x y : ℕ) (o : Outcome) → Sure n o → Sure n (outcome_around x y o)
 sure_around n x y (Done m k) s = tt
 sure_around n x y (Trapped w k) s = tt
 sure_around n x y (Bad a k) s = tt
@@ -59,11 +59,11 @@ sure_choice n true m k a = tt
 sure_choice n false m k a = tt
 
 sure_single : (n : ℕ) (d : Bool) (c : Cell) (m : Memory) → Sure n (outcome_of d c m)
-sure_single n d c m = sure_choice n (has_its_cell c m) (effect_along d c m) 1 (reg m c.b)
+sure_single n d c m = sure_choice n (has_its_cell c m) (effect_along d c m) 1 (memory_reg m c.b)
 
 next_sure : (n : ℕ) (im : Image) (q : List Symbol) (d : Bool) (W : Memory → ℕ → Type 0) (Q : Outcome → Type 0)
-    → ((m : Memory) (k : ℕ) → W m k → Will im q d m (Both (λ o. Q (after k o)) n)) → (o : Outcome)
-    → Both (And_next W Q) n o → Next (λ m1 k. Will im q d m1 (λ o. Both Q n (after k o))) (Both Q n) o
+    → ((m : Memory) (k : ℕ) → W m k → Will im q d m (Both (λ o. Q (outcome_after k o)) n)) → (o : Outcome)
+    → Both (And_next W Q) n o → Next (λ m1 k. Will im q d m1 (λ o. Both Q n (outcome_after k o))) (Both Q n) o
 next_sure n im q d W Q t (Done m k) h = will_more im q d m _ _ (λ o b. (b.0, sure_after n n k o (omega arith) b.1))
     (t m k h.0)
 next_sure n im q d W Q t (Trapped w k) h = h
@@ -88,9 +88,9 @@ back_at_sure n a s w d Q (Trapped v k) h = λ e lo hi. (h.0 e lo hi, tt)
 back_at_sure n a s w d Q (Bad v k) h = λ e lo hi. (h.0 e lo hi, tt)
 back_at_sure n a s w d Q (Still k) h = λ e lo hi. (h.0 e lo hi, omega arith)
 
-module _ (im : Image) (rs : Routines) (there : Stand im rs) where
+module _ (im : Image) (rs : Routines) (there : RoutinesStand im rs) where
   abbrev Holds : ℕ → (Shape → Bool → Memory → (Outcome → Type 0) → Type 0) → Type 1
-  Holds n f = (s : Shape) → IsMade s → (d : Bool) (m : Memory) (Q : Outcome → Type 0) → f s d m Q
+  Holds n f = (s : Shape) → IsShapeMade s → (d : Bool) (m : Memory) (Q : Outcome → Type 0) → f s d m Q
       → Will im (cells_of_shape s) d m (Both Q n)
 
   -- ---- a loop
@@ -103,10 +103,10 @@ module _ (im : Image) (rs : Routines) (there : Stand im rs) where
 
     tail_next : (j k : ℕ) (Q : Outcome → Type 0) → suc j ≤ n
         → ((m : Memory) (Q : Outcome → Type 0) → rounds_fine r fp fq j d m Q → turns m (Both Q j)) → (o : Outcome)
-        → Both (And_next (λ m2 k2. (reg m2 r ≡ 0) × rounds_fine r fp fq j d m2
-        (λ o. Q (after (k + to_tail d + (k2 + to_head d)) o))) (λ o. Q (after (k + to_tail d) o))) n o
-        → Next (λ m2 k2. (reg m2 r ≡ 0) × turns m2 (λ o. Both Q (suc j) (after (k + to_tail d + (k2 + to_head d)) o)))
-        (λ o. Both Q (suc j) (after (k + to_tail d) o)) o
+        → Both (And_next (λ m2 k2. (memory_reg m2 r ≡ 0) × rounds_fine r fp fq j d m2
+        (λ o. Q (outcome_after (k + to_tail d + (k2 + to_head d)) o))) (λ o. Q (outcome_after (k + to_tail d) o))) n o
+        → Next (λ m2 k2. (memory_reg m2 r ≡ 0) × turns m2 (λ o. Both Q (suc j) (outcome_after (k + to_tail d + (k2 + to_head d)) o)))
+        (λ o. Both Q (suc j) (outcome_after (k + to_tail d) o)) o
     tail_next j k Q le ih (Done m2 k2) h =
         let c : 1 ≤ to_head d = some d in (
           h.0.0,
@@ -124,17 +124,17 @@ module _ (im : Image) (rs : Routines) (there : Stand im rs) where
 
     head_next : (j : ℕ) (Q : Outcome → Type 0) → suc j ≤ n
         → ((m : Memory) (Q : Outcome → Type 0) → rounds_fine r fp fq j d m Q → turns m (Both Q j)) → (o : Outcome)
-        → Both (And_next (λ m1 k. ((reg m1 r ≢ 0) × Q (Done m1 (k + 3)))
-        ⊎ ((reg m1 r ≡ 0) × fq d m1 (And_next (λ m2 k2. (reg m2 r ≡ 0)
-        × rounds_fine r fp fq j d m2 (λ o. Q (after (k + to_tail d + (k2 + to_head d)) o)))
-        (λ o. Q (after (k + to_tail d) o))))) Q) n o → Next
+        → Both (And_next (λ m1 k. ((memory_reg m1 r ≢ 0) × Q (Done m1 (k + 3)))
+        ⊎ ((memory_reg m1 r ≡ 0) × fq d m1 (And_next (λ m2 k2. (memory_reg m2 r ≡ 0)
+        × rounds_fine r fp fq j d m2 (λ o. Q (outcome_after (k + to_tail d + (k2 + to_head d)) o)))
+        (λ o. Q (outcome_after (k + to_tail d) o))))) Q) n o → Next
         (After_head im r (cells_of_shape p) (cells_of_shape q) d (Both Q (suc j))) (Both Q (suc j)) o
     head_next j Q le ih (Done m1 k) h =
         ⊎_elim
-        (λ (l : (reg m1 r ≢ 0) × Q (Done m1 (k + 3))). inl (l.0, (l.1, tt)))
-        (λ (l : (reg m1 r ≡ 0) × fq d m1 (And_next (λ m2 k2. (reg m2 r ≡ 0)
-        × rounds_fine r fp fq j d m2 (λ o. Q (after (k + to_tail d + (k2 + to_head d)) o)))
-        (λ o. Q (after (k + to_tail d) o)))). inr (
+        (λ (l : (memory_reg m1 r ≢ 0) × Q (Done m1 (k + 3))). inl (l.0, (l.1, tt)))
+        (λ (l : (memory_reg m1 r ≡ 0) × fq d m1 (And_next (λ m2 k2. (memory_reg m2 r ≡ 0)
+        × rounds_fine r fp fq j d m2 (λ o. Q (outcome_after (k + to_tail d + (k2 + to_head d)) o)))
+        (λ o. Q (outcome_after (k + to_tail d) o)))). inr (
           l.0,
           will_more im (cells_of_shape q) d m1 _ _ (λ o b. tail_next j k Q le ih o b) (tail m1 _ l.1),
         ))
@@ -152,7 +152,7 @@ module _ (im : Image) (rs : Routines) (there : Stand im rs) where
   -- ---- any shape
 
   module _ (n : ℕ) (calls : Holds n (fine rs n)) where
-    holds : (s : Shape) → IsMade s → (d : Bool) (m : Memory) (Q : Outcome → Type 0)
+    holds : (s : Shape) → IsShapeMade s → (d : Bool) (m : Memory) (Q : Outcome → Type 0)
         → fine_with rs (suc n) (fine rs n) s d m Q → Will im (cells_of_shape s) d m (Both Q (suc n))
     holds Nothing g d m Q h = will_of im [] d m (Done m 0) _ (runs_empty im d m) (h, tt)
     holds (One c) g d m Q h = will_of im (Own c ∷ []) d m (outcome_of d c m) _
@@ -166,12 +166,12 @@ module _ (im : Image) (rs : Routines) (there : Stand im rs) where
     holds (Turned p) g d m Q h = will_mirror im (cells_of_shape p) d m _ (holds p g (not d) m Q h)
     holds (Choose r p q) g d m Q h =
         ⊎_elim
-        (λ (l : (reg m r ≢ 0) × fine_with rs (suc n) (fine rs n) p d m
-        (λ o. Left (λ m1. reg m1 r ≢ 0) o × Q (around 3 3 o))). will_branch_yes im d r (cells_of_shape p)
+        (λ (l : (memory_reg m r ≢ 0) × fine_with rs (suc n) (fine rs n) p d m
+        (λ o. Left (λ m1. memory_reg m1 r ≢ 0) o × Q (outcome_around 3 3 o))). will_branch_yes im d r (cells_of_shape p)
         (cells_of_shape q) m _ _ l.0 (holds p g.0 d m _ l.1) (λ m1 k b. b.0.0)
         (λ o b. (b.0.1, sure_around (suc n) 3 3 o b.1)))
-        (λ (l : (reg m r ≡ 0) × fine_with rs (suc n) (fine rs n) q d m
-        (λ o. Left (λ m1. reg m1 r ≡ 0) o × Q (around_no d o))). will_branch_no im d r (cells_of_shape p)
+        (λ (l : (memory_reg m r ≡ 0) × fine_with rs (suc n) (fine rs n) q d m
+        (λ o. Left (λ m1. memory_reg m1 r ≡ 0) o × Q (around_no d o))). will_branch_no im d r (cells_of_shape p)
         (cells_of_shape q) m _ _ l.0 (holds q g.1 d m _ l.1) (λ m1 k b. b.0.0)
         (λ o b. (b.0.1, sure_around_no (suc n) d o b.1)))
         h
@@ -183,28 +183,28 @@ module _ (im : Image) (rs : Routines) (there : Stand im rs) where
         (λ m Q f. holds p g.0 d m Q f) (λ m Q f. holds q g.1 d m Q f) (suc n) (omega arith) m _ h.1))
     holds (Check r code) g d m Q h =
         ⊎_elim
-        (λ (l : (reg m r ≡ 0) × Q (Done m 4)). will_of im _ d m (Done m 4) _ (runs_check_zero im d r code m l.0)
+        (λ (l : (memory_reg m r ≡ 0) × Q (Done m 4)). will_of im _ d m (Done m 4) _ (runs_check_zero im d r code m l.0)
         (l.1, tt))
-        (λ (l : (reg m r ≢ 0) × ((k : ℕ) → k ≤ 4 → Q (Trapped code k))). let k = runs_check_other im d r code m l.0 in
+        (λ (l : (memory_reg m r ≢ 0) × ((k : ℕ) → k ≤ 4 → Q (Trapped code k))). let k = runs_check_other im d r code m l.0 in
         will_of im _ d m (Trapped code k.0) _ k.2 (l.1 k.0 k.1, tt))
         h
     holds (Try t code) g d m Q h =
         ⊎_elim
-        (λ (l : Passes t m × Q (Done m 2)). will_of im _ d m (Done m 2) _ (runs_passes im d t code m l.0) (l.1, tt))
-        (λ (l : Fails t m × Q (Trapped code 1)). will_of im _ d m (Trapped code 1) _ (runs_fails im d t code m l.0)
+        (λ (l : TestPasses t m × Q (Done m 2)). will_of im _ d m (Done m 2) _ (runs_passes im d t code m l.0) (l.1, tt))
+        (λ (l : TestFails t m × Q (Trapped code 1)). will_of im _ d m (Trapped code 1) _ (runs_fails im d t code m l.0)
         (l.1, tt))
         h
     holds (Call r b) g d m Q h =
         will_enter im r (rs.top r) (cells_of_shape (rs.body r)) b d m _ (there.placed r h.0) there.tidy.short h.1 h.2
-        (λ w pw is. will_more im (cells_of_shape (rs.body r)) (xor b d) _ _ _ (λ o k. back_sure n w (xor b d) Q o k)
-        (calls (rs.body r) (there.made r h.0) (xor b d) _ _ (h.3 w pw is)))
+        (λ w pw is. will_more im (cells_of_shape (rs.body r)) (bool_xor b d) _ _ _ (λ o k. back_sure n w (bool_xor b d) Q o k)
+        (calls (rs.body r) (there.made r h.0) (bool_xor b d) _ _ (h.3 w pw is)))
     holds (Call_at a b) g d m Q h =
         will_enter_place im h.0 (rs.top h.0) (cells_of_shape (rs.body h.0)) a b d m _ there.tidy (there.placed h.0 h.1)
-        h.2 h.3 h.4 (λ w pw is. will_more im (cells_of_shape (rs.body h.0)) (xor b d) _ _ _
-        (λ o k. back_at_sure n a (rs.top h.0 + 1) w (xor b d) Q o k)
-        (calls (rs.body h.0) (there.made h.0 h.1) (xor b d) _ _ (h.5 w pw is)))
+        h.2 h.3 h.4 (λ w pw is. will_more im (cells_of_shape (rs.body h.0)) (bool_xor b d) _ _ _
+        (λ o k. back_at_sure n a (rs.top h.0 + 1) w (bool_xor b d) Q o k)
+        (calls (rs.body h.0) (there.made h.0 h.1) (bool_xor b d) _ _ (h.5 w pw is)))
 
-  pub will_fine : (n : ℕ) (s : Shape) → IsMade s → (d : Bool) (m : Memory) (Q : Outcome → Type 0) → fine rs n s d m Q
+  pub will_fine : (n : ℕ) (s : Shape) → IsShapeMade s → (d : Bool) (m : Memory) (Q : Outcome → Type 0) → fine rs n s d m Q
       → Will im (cells_of_shape s) d m (Both Q n)
   will_fine zero s g d m Q h = will_of im (cells_of_shape s) d m (Still 0) _ (runs_still im (cells_of_shape s) d m)
       (h, omega arith)
@@ -212,7 +212,7 @@ module _ (im : Image) (rs : Routines) (there : Stand im rs) where
 
 -- ---- in the words of the machine
 
-fewer : (im : Image) (far : ℤ) (d : Bool) (k n e : ℕ) (s : State) → n ≤ k → Stays im far d k e s → Stays im far d n e s
+fewer : (im : Image) (far : ℤ) (d : Bool) (k n e : ℕ) (s : State) → n ≤ k → LiteralStays im far d k e s → LiteralStays im far d n e s
 fewer im far d k zero e s h t = tt
 fewer im far d zero (suc n) e s h t = absurd (omega arith)
 fewer im far d (suc k) (suc n) e s h t = (t.0, t.1, fewer im far d k n _ _ (omega arith) t.2)
@@ -232,7 +232,7 @@ four_of im a b n d m (Still k) (still g) s = four.stays
     (fewer im _ d k n 0 _ s (path_stays im code_line d a b d g.path))
 
 -- the conditions are asked of n rounds and calls, and the run is known for n steps
-pub closed : (im : Image) (rs : Routines) (s : Shape) (a : ℕ) (d : Bool) (m : Memory) (n : ℕ) → Stand im rs → IsMade s
+pub closed : (im : Image) (rs : Routines) (s : Shape) (a : ℕ) (d : Bool) (m : Memory) (n : ℕ) → RoutinesStand im rs → IsShapeMade s
     → Stands im code_line a (cells_of_shape s) → a + length (cells_of_shape s) < 2 ^ 30 → fine rs n s d m any
     → Closed im s a d m n
 closed im rs s a d m n there g st l h =

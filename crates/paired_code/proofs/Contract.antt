@@ -9,7 +9,7 @@ use Rattle.paired_code.specs.declared.part.Symbol.TheVariants.{Own}
 use Rattle.paired_code.specs.declared.part.Symbol.{Symbol}
 use Rattle.paired_code.specs.Machine.{Image}
 use Rattle.paired_code.specs.Layout.{between, fork, branch_cells, mirror_cells, inverse_sym}
-use Rattle.paired_code.specs.Pieces.{Outcome, Done, Trapped, Bad, Still, Runs, Will, then_do, after, around, around_no}
+use Rattle.paired_code.specs.Pieces.{Outcome, Done, Trapped, Bad, Still, Runs, Will, then_do, outcome_after, outcome_around, around_no}
 use Rattle.paired_code.specs.Laws.{SeqLaw, MirrorLaw, BranchLaw}
 use Rattle.paired_code.proofs.Laws.{Next, will_of, runs_of, will_seq, will_seq_back}
 use Rattle.paired_code.proofs.Mirrored.{will_mirror, mirror_will}
@@ -17,7 +17,7 @@ use Rattle.paired_code.proofs.Branch.{will_branch_yes, will_branch_no}
 
 next : (im : Image) (q : List Symbol) (d : Bool) (o : Outcome) (g : Memory → Outcome)
     → ((m1 : Memory) (k : ℕ) → o ≡ Done m1 k → Runs im q d m1 (g m1))
-    → Next (λ m1 k. Will im q d m1 (λ x. after k x ≡ then_do o g)) (λ x. x ≡ then_do o g) o
+    → Next (λ m1 k. Will im q d m1 (λ x. outcome_after k x ≡ then_do o g)) (λ x. x ≡ then_do o g) o
 next im q d (Done m1 k) g s = will_of im q d m1 (g m1) _ (s m1 k refl) refl
 next im q d (Trapped w k) g s = refl
 next im q d (Bad w k) g s = refl
@@ -40,9 +40,9 @@ mirror_law p = record {
 
 pub branch_law : (r : ℕ) (p q : List Symbol) → BranchLaw r p q (branch_cells r p q)
 branch_law r p q = record {
-  yes_part = λ im d m o nz s keeps. runs_of im (branch_cells r p q) d m (around 3 3 o)
+  yes_part = λ im d m o nz s keeps. runs_of im (branch_cells r p q) d m (outcome_around 3 3 o)
       (will_branch_yes im d r p q m (λ x. x ≡ o) _ nz (will_of im p d m o _ s refl) (λ m1 k e. keeps m1 k (sym e))
-      (λ x e. ap (around 3 3) e));
+      (λ x e. ap (outcome_around 3 3) e));
   no_part = λ im d m o z s keeps. runs_of im (branch_cells r p q) d m (around_no d o)
       (will_branch_no im d r p q m (λ x. x ≡ o) _ z (will_of im q d m o _ s refl) (λ m1 k e. keeps m1 k (sym e))
       (λ x e. ap (around_no d) e));

@@ -17,11 +17,11 @@ use Rattle.code_conventions.specs.pisa_isa.declared.notes.TheConstants.{LAST_PLA
 use Rattle.paired_code.specs.Machine.{reversed, is_end_op, is_single}
 use Rattle.paired_code.specs.Layout.{between, fork, branch_cells, loop_cells}
 use Rattle.paired_code.specs.Layout.{mirror_cells, inverse_sym}
-use Rattle.paired_code.specs.Fit.{IsInner, IsFit, AllFit}
+use Rattle.paired_code.specs.Fit.{IsInner, IsFit, AllSymbolsFit}
 use Rattle.paired_code.specs.Code.{Code, AllWithin, moved_on, shift}
 use Rattle.paired_code.proofs.Steps.{reversed_is, single_own}
 
-pub fit_append : (p q : List Symbol) → AllFit p → AllFit q → AllFit (p ++ q)
+pub fit_append : (p q : List Symbol) → AllSymbolsFit p → AllSymbolsFit q → AllSymbolsFit (p ++ q)
 fit_append [] q h k = k
 fit_append (c ∷ p) q h k = (h.0, fit_append p q h.1 k)
 
@@ -43,7 +43,7 @@ fit_inverse (Fixed c) h = h
 fit_inverse (Aim b) h = tt
 fit_inverse (Turn k b o) h = tt
 
-pub fit_mirror : (p : List Symbol) → AllFit p → AllFit (mirror_cells p)
+pub fit_mirror : (p : List Symbol) → AllSymbolsFit p → AllSymbolsFit (mirror_cells p)
 fit_mirror [] h = tt
 fit_mirror (c ∷ p) h = fit_append (mirror_cells p) (inverse_sym c ∷ []) (fit_mirror p h.1) (fit_inverse c h.0, tt)
 
@@ -83,32 +83,32 @@ inner_single c s h = record { holds = h; no_end = single_own c s }
 pub word_between : (x y : ℕ) → between x y < 2 ^ 32
 word_between x y = omega arith
 
-pub fit_fork : (r x y : ℕ) (p : List Symbol) → r < 32 → AllFit p → AllFit (fork r (between x y) p)
+pub fit_fork : (r x y : ℕ) (p : List Symbol) → r < 32 → AllSymbolsFit p → AllSymbolsFit (fork r (between x y) p)
 fit_fork r x y p h k = (
   inner_gt r (between x y) h (word_between x y),
   (inner_lt r (between x y) h (word_between x y), k),
 )
 
-pub fit_branch : (r : ℕ) (p q : List Symbol) → r < 32 → AllFit p → AllFit q → AllFit (branch_cells r p q)
+pub fit_branch : (r : ℕ) (p q : List Symbol) → r < 32 → AllSymbolsFit p → AllSymbolsFit q → AllSymbolsFit (branch_cells r p q)
 fit_branch r p q h hp hq =
     let last = fork r (between 0 3) (Own (bra (between (5 + length p) 0)) ∷ fork r (between 3 0) []) in
     let most = Own (bra (between 0 (5 + length p))) ∷ fork r (between (3 + length q) 0) (p ++ last) in
-    let k2 : AllFit last = fit_fork r 0 3 (Own (bra (between (5 + length p) 0)) ∷ fork r (between 3 0) []) h
+    let k2 : AllSymbolsFit last = fit_fork r 0 3 (Own (bra (between (5 + length p) 0)) ∷ fork r (between 3 0) []) h
     (inner_bra (between (5 + length p) 0) (word_between (5 + length p) 0), fit_fork r 3 0 [] h tt) in
-    let k1 : AllFit most = (
+    let k1 : AllSymbolsFit most = (
       inner_bra (between 0 (5 + length p)) (word_between 0 (5 + length p)),
       fit_fork r (3 + length q) 0 (p ++ last) h (fit_append p last hp k2),
     ) in
     fit_fork r 0 (3 + length q) (q ++ most) h (fit_append q most hq k1)
 
-pub fit_loop : (r : ℕ) (p q : List Symbol) → r < 32 → AllFit p → AllFit q → AllFit (loop_cells r p q)
+pub fit_loop : (r : ℕ) (p q : List Symbol) → r < 32 → AllSymbolsFit p → AllSymbolsFit q → AllSymbolsFit (loop_cells r p q)
 fit_loop r p q h hp hq =
     let n = 5 + length q + length p in
     let last = fork r (between 0 3) (Own (bra (between n 0)) ∷ fork r (between 3 0) []) in
     let most = fork r (between (3 + length q) 0) (p ++ last) in
-    let k2 : AllFit last = fit_fork r 0 3 (Own (bra (between n 0)) ∷ fork r (between 3 0) []) h
+    let k2 : AllSymbolsFit last = fit_fork r 0 3 (Own (bra (between n 0)) ∷ fork r (between 3 0) []) h
     (inner_bra (between n 0) (word_between n 0), fit_fork r 3 0 [] h tt) in
-    let k1 : AllFit most = fit_fork r (3 + length q) 0 (p ++ last) h (fit_append p last hp k2) in
+    let k1 : AllSymbolsFit most = fit_fork r (3 + length q) 0 (p ++ last) h (fit_append p last hp k2) in
     fit_fork r 0 (3 + length q) (Own (bra (between 0 n)) ∷ (q ++ most)) h
     (inner_bra (between 0 n) (word_between 0 n), fit_append q most hq k1)
 

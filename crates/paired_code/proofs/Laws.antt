@@ -5,7 +5,7 @@ use Rattle.paired_code.specs.declared.part.Symbol.{Symbol}
 use Rattle.paired_code.specs.Machine.{Image}
 use Rattle.paired_code.specs.Layout.{Frame}
 use Rattle.paired_code.specs.Pieces.{Outcome, Done, Trapped, Bad, Still, Ends, finishes, traps, bad, still, Runs, Will}
-use Rattle.paired_code.specs.Pieces.{after, near_end, far_end}
+use Rattle.paired_code.specs.Pieces.{outcome_after, near_end, far_end}
 use Rattle.paired_code.proofs.Ways.{front, rest, ends_wider, ends_after}
 
 pub ends_at : {im : Image} {f : Frame} {d : Bool} {a b i i' j j' : ℕ} {m : Memory} {o : Outcome} → i ≡ i' → j ≡ j'
@@ -38,15 +38,15 @@ Next W Q (Still k) = Q (Still k)
 
 join_two : {im : Image} {f : Frame} {d : Bool} {a b i j l : ℕ} {m : Memory} {o : Outcome} (W : Memory → ℕ → Type 0)
     (Q : Outcome → Type 0) → Ends im f d a b i m j o → Next W Q o
-    → ((m1 : Memory) (k : ℕ) → W m1 k → (o : Outcome) × Ends im f d a b j m1 l o × Q (after k o))
+    → ((m1 : Memory) (k : ℕ) → W m1 k → (o : Outcome) × Ends im f d a b j m1 l o × Q (outcome_after k o))
     → (o : Outcome) × Ends im f d a b i m l o × Q o
-join_two W Q (finishes {m' = m'} {k = k} w) n r = let z = r m' k n in (after k z.0, ends_after w z.1, z.2)
+join_two W Q (finishes {m' = m'} {k = k} w) n r = let z = r m' k n in (outcome_after k z.0, ends_after w z.1, z.2)
 join_two W Q (traps {w = w} {k = k} h) n r = (Trapped w k, traps h, n)
 join_two W Q (bad {w = w} {k = k} h) n r = (Bad w k, bad h, n)
 join_two W Q (still {k = k} g) n r = (Still k, still g, n)
 
 pub will_seq : (im : Image) (p q : List Symbol) (m : Memory) (Q : Outcome → Type 0)
-    → Will im p false m (Next (λ m1 k. Will im q false m1 (λ o. Q (after k o))) Q) → Will im (p ++ q) false m Q
+    → Will im p false m (Next (λ m1 k. Will im q false m1 (λ o. Q (outcome_after k o))) Q) → Will im (p ++ q) false m Q
 will_seq im p q m Q r = record {
   will = λ f i h st.
       let l : i + length p + length q ≡ i + length (p ++ q) = omega (arith, length-append p q) in
@@ -57,7 +57,7 @@ will_seq im p q m Q r = record {
 }
 
 pub will_seq_back : (im : Image) (p q : List Symbol) (m : Memory) (Q : Outcome → Type 0)
-    → Will im q true m (Next (λ m1 k. Will im p true m1 (λ o. Q (after k o))) Q) → Will im (p ++ q) true m Q
+    → Will im q true m (Next (λ m1 k. Will im p true m1 (λ o. Q (outcome_after k o))) Q) → Will im (p ++ q) true m Q
 will_seq_back im p q m Q r = record {
   will = λ f i h st.
       let l : i + length p + length q ≡ i + length (p ++ q) = omega (arith, length-append p q) in

@@ -7,12 +7,12 @@ use Rattle.std.proofs.Math.Seq.{get_or-append_seam}
 use Rattle.std.proofs.lemmas.Option.{slice_get-get_or, slice_get_within}
 use Rattle.code_conventions.specs.pisa_isa.declared.cell.Cell.{Cell}
 use Rattle.code_conventions.specs.Cells.{bra}
-use Rattle.paired_code.specs.Cells.{start, finish}
+use Rattle.paired_code.specs.Cells.{start_cell, finish}
 use Rattle.paired_code.specs.declared.part.Symbol.{Symbol}
 use Rattle.code_conventions.specs.pisa_isa.Machine.{fetch}
 use Rattle.paired_code.specs.Machine.{Image, is_one_of}
-use Rattle.paired_code.specs.Layout.{base, resolved, Stands, code_line, Routine, Tidy, between, place}
-use Rattle.paired_code.specs.Link.{places, linked, routine_code, routines_code, first_top, link_code, link_image}
+use Rattle.paired_code.specs.Layout.{base, resolved, Stands, code_line, Routine, Tidy, between, frame_address}
+use Rattle.paired_code.specs.Link.{link_positions, linked, routine_code, routines_code, first_top, link_code, link_image}
 use Rattle.paired_code.specs.Link.{routines_size, link_size, AllPlaced}
 use Rattle.paired_code.proofs.Call.{on_line}
 
@@ -61,7 +61,7 @@ length-linked rs a [] = refl
 length-linked rs a (c ∷ p) = let e = length-linked rs (a + 1) p in omega arith
 
 pub cell_from : (im : Image) (n : ℕ) (c : Cell) (rest : List Cell) → From im.code n (c ∷ rest)
-    → fetch im.code (place code_line n) ≡ Some c
+    → fetch im.code (frame_address code_line n) ≡ Some c
 cell_from im n c rest h = subst (λ z. fetch im.code z ≡ Some c) (sym (on_line n)) (from_get im.code n c rest h)
 
 pub stands_from : (im : Image) (n : ℕ) (p : List Symbol) (rest : List Cell)
@@ -87,7 +87,7 @@ pub from_one_of : (all : List ℕ) (n : ℕ) (x : ℕ) (rest : List ℕ) → Fro
 from_one_of all n x rest h = ap (λ l. is_one_of l x) h.is ∙ one_of_seam h.pre rest x
 
 pub placed : (im : Image) (n t : ℕ) (bs : List (List Symbol)) → length im.code < 2 ^ 30
-    → From im.code t (routines_code im.routines t bs) → From im.routines n (places t bs) → AllPlaced im n t bs
+    → From im.code t (routines_code im.routines t bs) → From im.routines n (link_positions t bs) → AllPlaced im n t bs
 placed im n t [] short h g = tt
 placed im n t (b ∷ bs) short h g =
     let rs = im.routines in
@@ -120,14 +120,14 @@ placed im n t (b ∷ bs) short h g =
 
 -- each place in the table follows a jump
 jumps : (im : Image) (n t : ℕ) (bs : List (List Symbol)) (s : ℕ) → AllPlaced im n t bs
-    → is_one_of (places t bs) (s + 1) ≡ true → (w : ℕ) × (fetch im.code (pos s) ≡ Some (bra w))
+    → is_one_of (link_positions t bs) (s + 1) ≡ true → (w : ℕ) × (fetch im.code (pos s) ≡ Some (bra w))
 jumps im n t [] s h e = absurd (let k : false ≡ true = e in cc)
 jumps im n t (b ∷ bs) s h e = go (λ x. jumps im (n + 1) (t + 1 + 1 + 1 + length b + 1) bs s h.1 x)
     (nat_eq (t + 1) (s + 1)) refl e
   where
-    go : (is_one_of (places (t + 1 + 1 + 1 + length b + 1) bs) (s + 1) ≡ true
+    go : (is_one_of (link_positions (t + 1 + 1 + 1 + length b + 1) bs) (s + 1) ≡ true
         → (w : ℕ) × (fetch im.code (pos s) ≡ Some (bra w))) → (k : Bool) → nat_eq (t + 1) (s + 1) ≡ k
-        → (if k then true else is_one_of (places (t + 1 + 1 + 1 + length b + 1) bs) (s + 1)) ≡ true
+        → (if k then true else is_one_of (link_positions (t + 1 + 1 + 1 + length b + 1) bs) (s + 1)) ≡ true
         → (w : ℕ) × (fetch im.code (pos s) ≡ Some (bra w))
     go others true q x = let same : t ≡ s = grind (arith, nat_tests) in (
       between t (t + 1 + 1 + 1 + length b),
@@ -162,7 +162,7 @@ length-routines rs t (b ∷ bs) = omega (
 pub length-link : (main : List Symbol) (bodies : List (List Symbol))
     → length (link_code main bodies) ≡ link_size main bodies
 length-link main bodies =
-    let rs = places (first_top main) bodies in
+    let rs = link_positions (first_top main) bodies in
     omega (
       arith,
       length-append (linked rs 1 main) (finish ∷ routines_code rs (first_top main) bodies),
@@ -183,7 +183,7 @@ module _ (main : List Symbol) (bodies : List (List Symbol)) (small : link_size m
   short = let e = length-link main bodies in omega arith
 
   from_main : From im.code 1 (linked im.routines 1 main ++ finish ∷ tops)
-  from_main = record { pre = start ∷ []; is = refl; far = refl }
+  from_main = record { pre = start_cell ∷ []; is = refl; far = refl }
 
   from_finish : From im.code (1 + length main) (finish ∷ tops)
   from_finish = from_after im.code 1 (length main) (linked im.routines 1 main) (finish ∷ tops)

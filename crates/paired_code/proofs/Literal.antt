@@ -11,7 +11,7 @@ use Rattle.paired_code.specs.Machine.{Image, act, Change, Level, same, enters, l
 use Rattle.paired_code.specs.Layout.{Frame, spot, code_line}
 use Rattle.paired_code.specs.Pieces.{Inside, cell, open_call, in_flight, Path, stay, step, Outcome, Done, Trapped, Bad}
 use Rattle.paired_code.specs.Pieces.{Still, Ends, finishes, traps, bad, still, near_end, far_end}
-use Rattle.paired_code.specs.Literal.{opened, change_at, Coming, Comes, Stops, Stays, Said, InWords}
+use Rattle.paired_code.specs.Literal.{change_opened, change_at, Coming, Comes, LiteralStops, LiteralStays, Said, InWords}
 
 -- a cell of the fragment is not the place beyond its far end
 not_far : (flip d : Bool) (g : ℤ) (a b i : ℕ) → a ≤ i → i < b → spot flip false g i ≡ spot flip d g (far_end d a b) → ⊥
@@ -26,7 +26,7 @@ not_coming f d k a b e z br (cell i l h) ze zp zb = not_far f.flip d f.base a b 
 not_coming f d k a b e z br open_call ze zp zb = omega arith
 not_coming f d k a b e z br (in_flight h) ze zp zb = omega arith
 
-pub level_opened : {g : Change} {e e1 : ℕ} → Level g e e1 → opened g e ≡ e1
+pub level_opened : {g : Change} {e e1 : ℕ} → Level g e e1 → change_opened g e ≡ e1
 level_opened same = refl
 level_opened enters = omega arith
 level_opened leaves = omega arith
@@ -44,29 +44,29 @@ module _ (im : Image) (f : Frame) (d : Bool) (a b : ℕ) (k : Bool) where
   path_comes m (step {k = n} {e = e} {s = s} c i h g v l p) q = (
     before e s i,
     subst (λ o. stop_at o s ≡ None) (sym h) g,
-    subst (λ o. Comes im far k n (opened (change_at im.routines o s) e) (moved (effect_at o s)) m) (sym h)
+    subst (λ o. Comes im far k n (change_opened (change_at im.routines o s) e) (moved (effect_at o s)) m) (sym h)
         (subst (λ y. Comes im far k n y (act c s) m) (sym (level_opened l)) (path_comes m p q)),
   )
 
   pub path_stops : {n e e' : ℕ} {s s' : State} (why : Stop) → Path im f a b n e s e' s' → Inside f a b e' s'.pc s'.br
-      → stop im.code s' ≡ Some why → Stops im far k why n e s
+      → stop im.code s' ≡ Some why → LiteralStops im far k why n e s
   path_stops why (stay {e = e} {s = s}) j y = (before e s j, y)
   path_stops why (step {k = n} {e = e} {s = s} c i h g v l p) j y = (
     before e s i,
     subst (λ o. stop_at o s ≡ None) (sym h) g,
-    subst (λ o. Stops im far k why n (opened (change_at im.routines o s) e) (moved (effect_at o s))) (sym h)
-        (subst (λ z. Stops im far k why n z (act c s)) (sym (level_opened l)) (path_stops why p j y)),
+    subst (λ o. LiteralStops im far k why n (change_opened (change_at im.routines o s) e) (moved (effect_at o s))) (sym h)
+        (subst (λ z. LiteralStops im far k why n z (act c s)) (sym (level_opened l)) (path_stops why p j y)),
   )
 
 module _ (im : Image) (f : Frame) (d : Bool) (a b : ℕ) (k : Bool) where
   pub path_stays : {n e e' : ℕ} {s s' : State} → Path im f a b n e s e' s'
-      → Stays im (spot f.flip d f.base (far_end d a b)) k n e s
+      → LiteralStays im (spot f.flip d f.base (far_end d a b)) k n e s
   path_stays stay = tt
   path_stays (step {k = n} {e = e} {s = s} c i h g v l p) = (
     λ z. not_coming f d k a b e s.pc s.br i z.closed z.place z.free,
     subst (λ o. stop_at o s ≡ None) (sym h) g,
-    subst (λ o. Stays im (spot f.flip d f.base (far_end d a b)) k n (opened (change_at im.routines o s) e)
-        (moved (effect_at o s))) (sym h) (subst (λ y. Stays im (spot f.flip d f.base (far_end d a b)) k n y
+    subst (λ o. LiteralStays im (spot f.flip d f.base (far_end d a b)) k n (change_opened (change_at im.routines o s) e)
+        (moved (effect_at o s))) (sym h) (subst (λ y. LiteralStays im (spot f.flip d f.base (far_end d a b)) k n y
         (act c s)) (sym (level_opened l)) (path_stays p)),
   )
 

@@ -4,10 +4,10 @@ use Rattle.std.proofs.Common.{arith, length-append}
 use Rattle.code_conventions.specs.pisa_isa.Machine.{Memory}
 use Rattle.code_conventions.specs.Cells.{bra}
 use Rattle.paired_code.specs.declared.part.Symbol.{Symbol}
-use Rattle.paired_code.specs.Machine.{Image, reg}
+use Rattle.paired_code.specs.Machine.{Image, memory_reg}
 use Rattle.paired_code.specs.Layout.{Frame, at, Stands, between, loop_cells}
 use Rattle.paired_code.specs.Pieces.{Outcome, Done, Trapped, Bad, Still, Ends, finishes, traps, bad, still, Will, Way}
-use Rattle.paired_code.specs.Pieces.{after, stay, to_tail, to_head}
+use Rattle.paired_code.specs.Pieces.{outcome_after, stay, to_tail, to_head}
 use Rattle.paired_code.proofs.Steps.{Has}
 use Rattle.paired_code.proofs.Ways.{front, rest, has, and_then, ends_wider, ends_after, Fork, fork_at, fork_passed}
 use Rattle.paired_code.proofs.Ways.{fork_taken, jump}
@@ -118,25 +118,25 @@ module _ (im : Image) (f : Frame) (r : ℕ) (head tail : List Symbol) (i : ℕ) 
     run_tail true m Q r = let a = r.will f at_tail (omega arith) c.tail_there in
         (a.0, ends_wider i end (omega arith) (omega arith) a.1, a.2)
 
-    exit : (d : Bool) (m : Memory) → reg m r ≢ 0 → Way im f d i end 3 (head_to d) m (out d) m
+    exit : (d : Bool) (m : Memory) → memory_reg m r ≢ 0 → Way im f d i end 3 (head_to d) m (out d) m
     exit false m nz = fork_taken im f false i end r at_u at_v m (omega arith) (omega arith) (omega arith) (omega arith)
         (omega arith) (omega arith) (omega arith) nz c.u c.v
     exit true m nz = fork_taken im f true i end r at_y i m (omega arith) (omega arith) (omega arith) (omega arith)
         (omega arith) (omega arith) (omega arith) nz c.y c.x
 
-    go_tail : (d : Bool) (m : Memory) → reg m r ≡ 0 → Way im f d i end (to_tail d) (head_to d) m (tail_from d) m
+    go_tail : (d : Bool) (m : Memory) → memory_reg m r ≡ 0 → Way im f d i end (to_tail d) (head_to d) m (tail_from d) m
     go_tail false m z = and_then (fork_passed im f false i end r at_u _ m (omega arith) (omega arith) z c.u)
         (jump im f false i end at_e at_t m (omega arith) (omega arith) (omega arith) (omega arith) (omega arith)
         (omega arith) (omega arith) c.e c.t)
     go_tail true m z = fork_passed im f true i end r at_y _ m (omega arith) (omega arith) z c.y
 
-    go_head : (d : Bool) (m : Memory) → reg m r ≡ 0 → Way im f d i end (to_head d) (tail_to d) m (head_from d) m
+    go_head : (d : Bool) (m : Memory) → memory_reg m r ≡ 0 → Way im f d i end (to_head d) (tail_to d) m (head_from d) m
     go_head false m z = fork_passed im f false i end r at_y _ m (omega arith) (omega arith) z c.y
     go_head true m z = and_then (jump im f true i end at_t at_e m (omega arith) (omega arith) (omega arith)
         (omega arith) (omega arith) (omega arith) (omega arith) c.t c.e)
         (fork_passed im f true i end r at_u _ m (omega arith) (omega arith) z c.u)
 
-    entry : (d : Bool) (m : Memory) → reg m r ≢ 0 → Way im f d i end 3 (out (Rattle.std.specs.Prelude.not d)) m
+    entry : (d : Bool) (m : Memory) → memory_reg m r ≢ 0 → Way im f d i end 3 (out (Rattle.std.specs.Prelude.not d)) m
         (head_from d) m
     entry false m nz = fork_taken im f false i end r i at_y m (omega arith) (omega arith) (omega arith) (omega arith)
         (omega arith) (omega arith) (omega arith) nz c.x c.y
@@ -152,14 +152,14 @@ pub record Turns (im : Image) (r : ℕ) (head tail : List Symbol) (d : Bool) (m 
 
 -- where the loop begins
 pub will_loop : (im : Image) (d : Bool) (r : ℕ) (head tail : List Symbol) (m : Memory) (Q : Outcome → Type 0)
-    → reg m r ≢ 0 → Turns im r head tail d m (λ o. Q (after 3 o)) → Will im (loop_cells r head tail) d m Q
+    → memory_reg m r ≢ 0 → Turns im r head tail d m (λ o. Q (outcome_after 3 o)) → Will im (loop_cells r head tail) d m Q
 will_loop im false r head tail m Q nz t = record {
   will = λ f i h st.
       let w : i + length (loop_cells r head tail) ≡ end im f r head tail i = whole im f r head tail i in
       let c = parts im f r head tail i h st in
       let l : end im f r head tail i < 2 ^ 30 = omega arith in
       let a = t.turns f i l c in (
-        after 3 a.0,
+        outcome_after 3 a.0,
         ends_at refl (sym w) (ends_wider i (i + length (loop_cells r head tail)) (omega arith) (omega arith)
             (ends_after (entry im f r head tail i l c false m nz) a.1)),
         a.2,
@@ -171,7 +171,7 @@ will_loop im true r head tail m Q nz t = record {
       let c = parts im f r head tail i h st in
       let l : end im f r head tail i < 2 ^ 30 = omega arith in
       let a = t.turns f i l c in (
-        after 3 a.0,
+        outcome_after 3 a.0,
         ends_at (sym w) refl (ends_wider i (i + length (loop_cells r head tail)) (omega arith) (omega arith)
             (ends_after (entry im f r head tail i l c true m nz) a.1)),
         a.2,
@@ -181,23 +181,23 @@ will_loop im true r head tail m Q nz t = record {
 -- what is to hold after head: the loop is left, or tail comes and then head again
 abbrev pub After_head : Image → ℕ → List Symbol → List Symbol → Bool → (Outcome → Type 0) → Memory → ℕ → Type 0
 After_head im r head tail d Q m1 k =
-    ((reg m1 r ≢ 0) × Q (Done m1 (k + 3)))
-    ⊎ ((reg m1 r ≡ 0) × Will im tail d m1 (Next (λ m2 k2. (reg m2 r ≡ 0)
-    × Turns im r head tail d m2 (λ o. Q (after (k + to_tail d + (k2 + to_head d)) o)))
-    (λ o. Q (after (k + to_tail d) o))))
+    ((memory_reg m1 r ≢ 0) × Q (Done m1 (k + 3)))
+    ⊎ ((memory_reg m1 r ≡ 0) × Will im tail d m1 (Next (λ m2 k2. (memory_reg m2 r ≡ 0)
+    × Turns im r head tail d m2 (λ o. Q (outcome_after (k + to_tail d + (k2 + to_head d)) o)))
+    (λ o. Q (outcome_after (k + to_tail d) o))))
 
 module _ (im : Image) (r : ℕ) (head tail : List Symbol) (d : Bool) (Q : Outcome → Type 0) where
   after_tail : (f : Frame) (i : ℕ) (h : end im f r head tail i < 2 ^ 30) (c : Parts im f r head tail i) (n : ℕ)
       (m : Memory) (m1 : Memory) (o : Outcome) → Way im f d i (end im f r head tail i) n
       (head_from im f r head tail i h c d) m (tail_from im f r head tail i h c d) m1
       → Ends im f d i (end im f r head tail i) (tail_from im f r head tail i h c d) m1
-      (tail_to im f r head tail i h c d) o → Next (λ m2 k2. (reg m2 r ≡ 0)
-      × Turns im r head tail d m2 (λ o. Q (after (n + (k2 + to_head d)) o))) (λ o. Q (after n o)) o
+      (tail_to im f r head tail i h c d) o → Next (λ m2 k2. (memory_reg m2 r ≡ 0)
+      × Turns im r head tail d m2 (λ o. Q (outcome_after (n + (k2 + to_head d)) o))) (λ o. Q (outcome_after n o)) o
       → (o : Outcome) × Ends im f d i (end im f r head tail i) (head_from im f r head tail i h c d) m
       (out im f r head tail i h c d) o × Q o
   after_tail f i h c n m m1 (Done m2 k2) w (finishes v) q =
       let a = q.1.turns f i h c in (
-        after (n + (k2 + to_head d)) a.0,
+        outcome_after (n + (k2 + to_head d)) a.0,
         ends_after (and_then w (and_then v (go_head im f r head tail i h c d m2 q.0)))
             a.1,
         a.2,
@@ -213,14 +213,14 @@ module _ (im : Image) (r : ℕ) (head tail : List Symbol) (d : Bool) (Q : Outcom
       (out im f r head tail i h c d) o × Q o
   after_head f i h c m (Done m1 k) (finishes v) q =
       ⊎_elim
-      (λ (l : (reg m1 r ≢ 0) × Q (Done m1 (k + 3))). (
+      (λ (l : (memory_reg m1 r ≢ 0) × Q (Done m1 (k + 3))). (
         Done m1 (k + 3),
         finishes (and_then v (exit im f r head tail i h c d m1 l.0)),
         l.1,
       ))
-      (λ (l : (reg m1 r ≡ 0) × Will im tail d m1 (Next (λ m2 k2. (reg m2 r ≡ 0)
-      × Turns im r head tail d m2 (λ o. Q (after (k + to_tail d + (k2 + to_head d)) o)))
-      (λ o. Q (after (k + to_tail d) o)))).
+      (λ (l : (memory_reg m1 r ≡ 0) × Will im tail d m1 (Next (λ m2 k2. (memory_reg m2 r ≡ 0)
+      × Turns im r head tail d m2 (λ o. Q (outcome_after (k + to_tail d + (k2 + to_head d)) o)))
+      (λ o. Q (outcome_after (k + to_tail d) o)))).
       let a = run_tail im f r head tail i h c d m1 _ l.1 in
       after_tail f i h c (k + to_tail d) m m1 a.0 (and_then v (go_tail im f r head tail i h c d m1 l.0)) a.1 a.2)
       q

@@ -8,7 +8,7 @@ use Rattle.paired_code.specs.declared.part.Symbol.{Symbol}
 use Rattle.paired_code.specs.declared.part.Symbol.TheVariants.{Own}
 use Rattle.code_conventions.specs.pisa_isa.declared.notes.Mark.{Mark}
 use Rattle.paired_code.specs.Layout.{between, fork, branch_cells, loop_cells}
-use Rattle.paired_code.specs.Code.{Code, Kept, AllWithin, shift, seq_code, branch_code, loop_code, marked_code, Marked}
+use Rattle.paired_code.specs.Code.{Code, KeptCode, AllWithin, shift, seq_code, branch_code, loop_code, marked_code, Marked}
 use Rattle.paired_code.specs.Code.{marked_parts, parts}
 
 module _ (pre p post : List Symbol) where
@@ -108,6 +108,6 @@ marked_all at p =
         ∙ take_all (length xs) xs (omega arith)
 
 pub kept_view : {cells : List Symbol} {marks : List Mark} (view : Code)
-    → (let x : Code = record { cells = cells; marks = marks } in x) ≡ view → Kept cells marks
+    → (let x : Code = record { cells = cells; marks = marks } in x) ≡ view → KeptCode cells marks
     → AllWithin (length view.cells) view.marks
 kept_view view e h = subst (λ (z : Code). AllWithin (length z.cells) z.marks) e h.within

@@ -7,7 +7,7 @@ use Rattle.paired_code.specs.declared.part.Symbol.{Symbol}
 use Rattle.paired_code.specs.declared.part.Symbol.TheVariants.{Own, Enter, Fixed, Aim, Turn}
 use Rattle.code_conventions.specs.pisa_isa.Machine.{State, fetch, Memory}
 use Rattle.paired_code.specs.Machine.{state, Image}
-use Rattle.paired_code.specs.Layout.{xor, Frame, spot, place, at, base, resolved, Stands, inverse_sym, mirror_cells}
+use Rattle.paired_code.specs.Layout.{bool_xor, Frame, spot, frame_address, at, base, resolved, Stands, inverse_sym, mirror_cells}
 use Rattle.paired_code.specs.Pieces.{Inside, cell, open_call, in_flight, Path, stay, step, Outcome, Ends, finishes}
 use Rattle.paired_code.specs.Pieces.{traps, bad, still, Will, near_end, far_end}
 use Rattle.paired_code.proofs.Steps.{inverse_twice}
@@ -28,7 +28,7 @@ frame flip b = record { flip = flip; base = b }
 abbrev other : Bool → ℤ → ℕ → Frame
 other flip b n = frame (not flip) (turned_base flip b n)
 
-other_place : (flip : Bool) (b : ℤ) (n i j : ℕ) → i + j + 1 ≡ n → place (other flip b n) i ≡ place (frame flip b) j
+other_place : (flip : Bool) (b : ℤ) (n i j : ℕ) → i + j + 1 ≡ n → frame_address (other flip b n) i ≡ frame_address (frame flip b) j
 other_place false b n i j e = omega (arith, ints)
 other_place true b n i j e = omega (arith, ints)
 
@@ -39,7 +39,7 @@ other_spot false true b n i j e = omega (arith, ints)
 other_spot true false b n i j e = omega (arith, ints)
 other_spot true true b n i j e = omega (arith, ints)
 
-other_back : (flip d : Bool) → xor (not flip) (not d) ≡ xor flip d
+other_back : (flip d : Bool) → bool_xor (not flip) (not d) ≡ bool_xor flip d
 other_back false false = refl
 other_back false true = refl
 other_back true false = refl
@@ -69,10 +69,10 @@ stands_other im flip b (c ∷ p) i i' h =
     let last = (rest im (frame flip b) i (mirror_cells p) (inverse_sym c ∷ []) h).0 in
     let n = i + i' + length (c ∷ p) in
     let e : i' + (i + length (mirror_cells p)) + 1 ≡ n = omega (arith, length_mirror p) in
-    let same : place (other flip b n) i' ≡ place (frame flip b) (i + length (mirror_cells p)) =
+    let same : frame_address (other flip b n) i' ≡ frame_address (frame flip b) (i + length (mirror_cells p)) =
     other_place flip b n i' (i + length (mirror_cells p)) e in
     let k : i + (i' + 1) + length p ≡ n = omega arith in
-    let there = last ∙ ap Some (resolved_other im flip (place (frame flip b) (i + length (mirror_cells p))) c) in
+    let there = last ∙ ap Some (resolved_other im flip (frame_address (frame flip b) (i + length (mirror_cells p))) c) in
     let P : ℤ → Type 0 = λ z. fetch im.code z ≡ Some (resolved im (not flip) z c) in (
       subst P (sym same) there,
       subst (λ z. Stands im (other flip b z) (i' + 1) p) k
@@ -97,7 +97,7 @@ inside_other flip b lo hi e z br (in_flight h) = in_flight h
 at_other : (flip d : Bool) (b : ℤ) (n i j : ℕ) (m : Memory) → i + j ≡ n
     → at (other flip b n) (not d) i m ≡ at (frame flip b) d j m
 at_other flip d b n i j m e =
-    ap (λ z. state z 0 (xor (not flip) (not d)) m) (other_spot flip d b n i j e)
+    ap (λ z. state z 0 (bool_xor (not flip) (not d)) m) (other_spot flip d b n i j e)
     ∙ ap (λ k. state (spot flip d b j) 0 k m) (other_back flip d)
 
 path_other : (im : Image) (flip d : Bool) (b : ℤ) (lo hi k i j e' : ℕ) (m : Memory) (s : State) → i + j ≡ lo + hi

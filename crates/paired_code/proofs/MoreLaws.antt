@@ -3,12 +3,12 @@ use Rattle.std.proofs.Common.{◌≡◌, ◌≢◌, ℕ, ◌+◌, ◌^◌, ◌<�
 use Rattle.code_conventions.specs.pisa_isa.Machine.{Memory}
 use Rattle.paired_code.specs.declared.part.Symbol.{Symbol}
 use Rattle.paired_code.specs.declared.part.Symbol.TheVariants.{Enter}
-use Rattle.paired_code.specs.Machine.{Image, with_reg}
-use Rattle.paired_code.specs.Layout.{xor, loop_cells, check_cells, Test, test_cells, place_register, enter_at_cells}
-use Rattle.paired_code.specs.Pieces.{Outcome, Done, Trapped, Bad, Still, Ends, after, IsOver, to_tail, to_head}
+use Rattle.paired_code.specs.Machine.{Image, memory_with_reg}
+use Rattle.paired_code.specs.Layout.{bool_xor, loop_cells, check_cells, Test, test_cells, place_register, enter_at_cells}
+use Rattle.paired_code.specs.Pieces.{Outcome, Done, Trapped, Bad, Still, Ends, outcome_after, IsOutcomeOver, to_tail, to_head}
 use Rattle.paired_code.specs.Pieces.{near_end, far_end}
 use Rattle.paired_code.specs.Laws.{Rounds, pause, ends_in_head, leaves, ends_in_tail, again, WhileLaw, CheckLaw}
-use Rattle.paired_code.specs.Laws.{TestLaw, EnterLaw, EnterAtLaw, came_back, called, called_at}
+use Rattle.paired_code.specs.Laws.{BranchTestLaw, EnterLaw, EnterAtLaw, came_back, called, called_at}
 use Rattle.paired_code.proofs.Laws.{Next, will_of, runs_of}
 use Rattle.paired_code.proofs.Loop.{Turns, turn, no_turn, turns_more, will_loop}
 use Rattle.paired_code.proofs.Small.{runs_check_zero, runs_check_other}
@@ -16,7 +16,7 @@ use Rattle.paired_code.proofs.Checks.{runs_passes, runs_fails}
 use Rattle.paired_code.proofs.Call.{Returns, will_enter}
 use Rattle.paired_code.proofs.EnterAt.{Returns_any, will_enter_at_any, not_two, other_register}
 
-over_is : (W : Memory → ℕ → Type 0) (Q : Outcome → Type 0) (o : Outcome) → IsOver o → Q o → Next W Q o
+over_is : (W : Memory → ℕ → Type 0) (Q : Outcome → Type 0) (o : Outcome) → IsOutcomeOver o → Q o → Next W Q o
 over_is W Q (Done m k) v q = absurd v
 over_is W Q (Trapped w k) v q = q
 over_is W Q (Bad w k) v q = q
@@ -34,7 +34,7 @@ rounds_turn {im = im} {r = r} {head = head} {tail = tail} {d = d} {m = m}
     turn im d r head tail m _ (will_of im head d m (Done m1 k) _ h
     (inr (
       z,
-      will_of im tail d m1 o _ t (over_is _ (λ x. after (k + to_tail d) x ≡ after (k + to_tail d) o) o v
+      will_of im tail d m1 o _ t (over_is _ (λ x. outcome_after (k + to_tail d) x ≡ outcome_after (k + to_tail d) o) o v
           refl),
     )))
 rounds_turn {im = im} {r = r} {head = head} {tail = tail} {d = d} {m = m}
@@ -44,15 +44,15 @@ rounds_turn {im = im} {r = r} {head = head} {tail = tail} {d = d} {m = m}
       z,
       will_of im tail d m1 (Done m2 k2) _ t (
         z2,
-        turns_more im d r head tail m2 _ _ (λ x e. ap (after (k + to_tail d + (k2 + to_head d))) e)
+        turns_more im d r head tail m2 _ _ (λ x e. ap (outcome_after (k + to_tail d + (k2 + to_head d))) e)
             (rounds_turn more),
       ),
     )))
 
 pub while_law : (r : ℕ) (head tail : List Symbol) → WhileLaw r head tail (loop_cells r head tail)
 while_law r head tail = record {
-  turns = λ im d m o nz h. runs_of im (loop_cells r head tail) d m (after 3 o)
-      (will_loop im d r head tail m _ nz (turns_more im d r head tail m _ _ (λ x e. ap (after 3) e) (rounds_turn h)));
+  turns = λ im d m o nz h. runs_of im (loop_cells r head tail) d m (outcome_after 3 o)
+      (will_loop im d r head tail m _ nz (turns_more im d r head tail m _ _ (λ x e. ap (outcome_after 3) e) (rounds_turn h)));
 }
 
 pub check_law : (r code : ℕ) → CheckLaw r code (check_cells r code)
@@ -61,7 +61,7 @@ check_law r code = record {
   other_part = λ im d m nz. runs_check_other im d r code m nz;
 }
 
-pub test_law : (t : Test) (code : ℕ) → TestLaw t code (test_cells t code)
+pub test_law : (t : Test) (code : ℕ) → BranchTestLaw t code (test_cells t code)
 test_law t code = record {
   passes_part = λ im d m h. runs_passes im d t code m h;
   fails_part = λ im d m h. runs_fails im d t code m h;
@@ -78,10 +78,10 @@ returns_of w d Q (Still k) h q = q
 pub enter_law : (r : ℕ) (b : Bool) → EnterLaw r b (Enter r b ∷ [])
 enter_law r b = record {
   enters = λ im top body d m o t tidy room z h f i l st.
-      let Q : Outcome → Type 0 = λ x. (w : ℕ) × (0 < w) × (w < 2 ^ 32) × (x ≡ called (xor b d) (o w)) in
+      let Q : Outcome → Type 0 = λ x. (w : ℕ) × (0 < w) × (w < 2 ^ 32) × (x ≡ called (bool_xor b d) (o w)) in
       let a = (will_enter im r top body b d m Q t tidy.short room z
-      (λ w pw is. let c = h w pw is in will_of im body (xor b d) (with_reg m 2 w) (o w) _ c.0
-      (returns_of w (xor b d) Q (o w) c.1 (w, pw, is, refl)))).will f i l st in
+      (λ w pw is. let c = h w pw is in will_of im body (bool_xor b d) (memory_with_reg m 2 w) (o w) _ c.0
+      (returns_of w (bool_xor b d) Q (o w) c.1 (w, pw, is, refl)))).will f i l st in
       let q = a.2 in
       (q.0, q.1, q.2, subst (λ x. Ends im f d i (i + 1) (near_end d i (i + 1)) m (far_end d i (i + 1)) x) q.3 a.1);
 }
@@ -104,10 +104,10 @@ enter_at_one : (a : ℕ) (b : Bool) → a ≢ 2 → EnterAtLaw a b (enter_at_cel
 enter_at_one a b na = record {
   enters = λ im r top body d m o t tidy room z v h f i l st.
       let Q : Outcome → Type 0 = λ x. (w : ℕ) × (e : ℕ) × (0 < w) × (w < 2 ^ 32) × (6 ≤ e) × (e ≤ 15)
-      × (x ≡ called_at a (top + 1) (xor b d) e (o w)) in
+      × (x ≡ called_at a (top + 1) (bool_xor b d) e (o w)) in
       let c = (will_enter_at_any im r top body a b d m Q tidy t na room z v
-      (λ w pw is. let c = h w pw is in will_of im body (xor b d) (with_reg m 2 w) (o w) _ c.0
-      (returns_any_of a (top + 1) w (xor b d) Q (o w) c.1 (λ e lo hi. (w, e, pw, is, lo, hi, refl))))).will f i
+      (λ w pw is. let c = h w pw is in will_of im body (bool_xor b d) (memory_with_reg m 2 w) (o w) _ c.0
+      (returns_any_of a (top + 1) w (bool_xor b d) Q (o w) c.1 (λ e lo hi. (w, e, pw, is, lo, hi, refl))))).will f i
       l st in
       let q = c.2 in (
         q.0,

@@ -10,8 +10,8 @@ use Rattle.paired_code.specs.declared.part.Symbol.TheVariants.{Own}
 use Rattle.code_conventions.specs.pisa_isa.Machine.{stop_at, fetch, Memory}
 use Rattle.code_conventions.specs.pisa_isa.declared.machine.Stop.TheVariants.{Trap, BadAddress}
 use Rattle.paired_code.proofs.Words.{is_positive, is_negative, toward, near, near_is}
-use Rattle.paired_code.specs.Machine.{state, Image, is_single, reg, effect_along}
-use Rattle.paired_code.specs.Layout.{xor, Frame, place, at, Stands, between, check_cells}
+use Rattle.paired_code.specs.Machine.{state, Image, is_single, memory_reg, effect_along}
+use Rattle.paired_code.specs.Layout.{bool_xor, Frame, frame_address, at, Stands, between, check_cells}
 use Rattle.paired_code.specs.Pieces.{Inside, cell, stay, Done, Trapped, Bad, Still, Way, Halts, Ends, finishes, traps}
 use Rattle.paired_code.specs.Pieces.{bad, still, Runs, near_end, far_end}
 use Rattle.paired_code.specs.Laws.{outcome_of}
@@ -41,7 +41,7 @@ runs_empty im true m = record {
 module _ (im : Image) (f : Frame) (i r code : ℕ) where
   record Parts : Type 0 where
     j : Has im f i (bra (between i (i + 2)))
-    trap : fetch im.code (place f (i + 1)) ≡ Some (data_word code)
+    trap : fetch im.code (frame_address f (i + 1)) ≡ Some (data_word code)
     k : Has im f (i + 2) (bra (between (i + 2) i))
     gt : Has im f (i + 3) (bgtz r (between (i + 3) (i + 1)))
     lt : Has im f (i + 4) (bltz r (between (i + 4) (i + 1)))
@@ -80,14 +80,14 @@ module _ (im : Image) (f : Frame) (i r code : ℕ) where
         (jump im f true i (i + 5) (i + 2) i m (omega arith) (omega arith) (omega arith) (omega arith) (omega arith)
         (omega arith) (omega arith) c.k c.j)
 
-    pass_gt : (d : Bool) → is_positive (reg m r) ≡ false → Way im f d i (i + 5) 1 (near_end d (i + 3) (i + 4)) m
+    pass_gt : (d : Bool) → is_positive (memory_reg m r) ≡ false → Way im f d i (i + 5) 1 (near_end d (i + 3) (i + 4)) m
         (far_end d (i + 3) (i + 4)) m
     pass_gt false h = from_to refl refl (let e : i + 3 + 1 ≡ i + 4 = omega arith in e)
         (calm_way im f false i (i + 5) (i + 3) _ m m (omega arith) (omega arith) c.gt (calm_gt f.flip false r m _ h))
     pass_gt true h = from_to refl (let e : i + 3 + 1 ≡ i + 4 = omega arith in e) refl
         (calm_way im f true i (i + 5) (i + 3) _ m m (omega arith) (omega arith) c.gt (calm_gt f.flip true r m _ h))
 
-    pass_lt : (d : Bool) → is_negative (reg m r) ≡ false → Way im f d i (i + 5) 1 (near_end d (i + 4) (i + 5)) m
+    pass_lt : (d : Bool) → is_negative (memory_reg m r) ≡ false → Way im f d i (i + 5) 1 (near_end d (i + 4) (i + 5)) m
         (far_end d (i + 4) (i + 5)) m
     pass_lt false h = from_to refl refl (let e : i + 4 + 1 ≡ i + 5 = omega arith in e)
         (calm_way im f false i (i + 5) (i + 4) _ m m (omega arith) (omega arith) c.lt (calm_lt f.flip false r m _ h))
@@ -98,14 +98,14 @@ module _ (im : Image) (f : Frame) (i r code : ℕ) where
     halts : (d : Bool) (k x g : ℕ) (b : Cell) → Way im f d i (i + 5) k g m (near d x) m → x ≢ i + 1 → i ≤ x → x < i + 5
         → Has im f x b → Takes f.flip b m (between x (i + 1)) → Halts im f d i (i + 5) (k + 1) g m (Trap code)
     halts d k x g b w ne lo hi h t = record {
-      last = state (place f (i + 1)) (toward d x (i + 1)) (xor f.flip d) m;
+      last = state (frame_address f (i + 1)) (toward d x (i + 1)) (bool_xor f.flip d) m;
       depth = 0;
       path = append w.path (leap im f d i (i + 5) x (i + 1) b m ne (omega arith) (omega arith) lo hi h t);
-      stops = ap (λ o. stop_at o (state (place f (i + 1)) (toward d x (i + 1)) (xor f.flip d) m)) c.trap;
+      stops = ap (λ o. stop_at o (state (frame_address f (i + 1)) (toward d x (i + 1)) (bool_xor f.flip d) m)) c.trap;
       inside = cell (i + 1) (omega arith) (omega arith);
     }
 
-pub runs_check_zero : (im : Image) (d : Bool) (r code : ℕ) (m : Memory) → reg m r ≡ 0
+pub runs_check_zero : (im : Image) (d : Bool) (r code : ℕ) (m : Memory) → memory_reg m r ≡ 0
     → Runs im (check_cells r code) d m (Done m 4)
 runs_check_zero im false r code m z = record {
   run = λ f i l st. let c = parts im f i r code l st in
@@ -119,11 +119,11 @@ runs_check_zero im true r code m z = record {
       (pass_gt im f i r code l c m true (zero_positive _ z))) (pass_jump im f i r code l c m true));
 }
 
-pub runs_check_other : (im : Image) (d : Bool) (r code : ℕ) (m : Memory) → reg m r ≢ 0
+pub runs_check_other : (im : Image) (d : Bool) (r code : ℕ) (m : Memory) → memory_reg m r ≢ 0
     → (k : ℕ) × (k ≤ 4) × Runs im (check_cells r code) d m (Trapped code k)
-runs_check_other im d r code m nz = ⊎_elim (λ s. up d s.0 s.1) (λ s. down d s.0 s.1) (not_zero (reg m r) nz)
+runs_check_other im d r code m nz = ⊎_elim (λ s. up d s.0 s.1) (λ s. down d s.0 s.1) (not_zero (memory_reg m r) nz)
   where
-    up : (d : Bool) → is_positive (reg m r) ≡ true → is_negative (reg m r) ≡ false
+    up : (d : Bool) → is_positive (memory_reg m r) ≡ true → is_negative (memory_reg m r) ≡ false
         → (k : ℕ) × (k ≤ 4) × Runs im (check_cells r code) d m (Trapped code k)
     up false s n = (
       3,
@@ -146,7 +146,7 @@ runs_check_other im d r code m nz = ⊎_elim (λ s. up d s.0 s.1) (λ s. down d 
       },
     )
 
-    down : (d : Bool) → is_positive (reg m r) ≡ false → is_negative (reg m r) ≡ true
+    down : (d : Bool) → is_positive (memory_reg m r) ≡ false → is_negative (memory_reg m r) ≡ true
         → (k : ℕ) × (k ≤ 4) × Runs im (check_cells r code) d m (Trapped code k)
     down false n s = (
       4,
@@ -185,29 +185,29 @@ runs_acting im c true m h w t = record {
 }
 
 runs_stopping : (im : Image) (c : Cell) (d : Bool) (m : Memory) → is_single c ≡ true → has_its_cell c m ≡ false
-    → Runs im (Own c ∷ []) d m (Bad (reg m c.b) 0)
+    → Runs im (Own c ∷ []) d m (Bad (memory_reg m c.b) 0)
 runs_stopping im c d m h t = record { run = λ f i l st. go f i st d }
   where
     halts_here : (f : Frame) (i : ℕ) → Stands im f i (Own c ∷ []) → (d : Bool)
-        → Halts im f d i (i + 1) 0 (near d i) m (BadAddress (reg m c.b))
+        → Halts im f d i (i + 1) 0 (near d i) m (BadAddress (memory_reg m c.b))
     halts_here f i st d = record {
       last = at f d (near d i) m;
       depth = 0;
       path = stay;
-      stops = subst (λ z. stop_at (fetch im.code z) (at f d (near d i) m) ≡ Some (BadAddress (reg m c.b)))
+      stops = subst (λ z. stop_at (fetch im.code z) (at f d (near d i) m) ≡ Some (BadAddress (memory_reg m c.b)))
           (sym (near_is f.flip d f.base i)) (ap (λ o. stop_at o (at f d (near d i) m)) (has im f i c st.0)
-          ∙ single_stop f.flip (xor f.flip d) c m _ h ∙ ap (λ t. stop_by t (reg m c.b)) t);
+          ∙ single_stop f.flip (bool_xor f.flip d) c m _ h ∙ ap (λ t. stop_by t (memory_reg m c.b)) t);
       inside = subst (λ z. Inside f i (i + 1) 0 z 0) (sym (near_is f.flip d f.base i))
           (cell i (omega arith) (omega arith));
     }
 
     go : (f : Frame) (i : ℕ) → Stands im f i (Own c ∷ []) → (d : Bool)
-        → Ends im f d i (i + 1) (near_end d i (i + 1)) m (far_end d i (i + 1)) (Bad (reg m c.b) 0)
+        → Ends im f d i (i + 1) (near_end d i (i + 1)) m (far_end d i (i + 1)) (Bad (memory_reg m c.b) 0)
     go f i st false = bad (halts_here f i st false)
     go f i st true = bad (halts_here f i st true)
 
 single_out : (im : Image) (c : Cell) (d : Bool) (m : Memory) (t : Bool) → is_single c ≡ true → c.imm < 2 ^ 32
-    → has_its_cell c m ≡ t → Runs im (Own c ∷ []) d m (if t then Done (effect_along d c m) 1 else Bad (reg m c.b) 0)
+    → has_its_cell c m ≡ t → Runs im (Own c ∷ []) d m (if t then Done (effect_along d c m) 1 else Bad (memory_reg m c.b) 0)
 single_out im c d m true h w e = runs_acting im c d m h w e
 single_out im c d m false h w e = runs_stopping im c d m h e
 

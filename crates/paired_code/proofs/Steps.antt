@@ -17,8 +17,8 @@ use Rattle.code_conventions.proofs.pisa_isa_laws.Mirror.{inverse_op-twice, inver
 use Rattle.code_conventions.specs.Cells.{bra}
 use Rattle.paired_code.specs.Cells.{beq, bne, bgtz, bltz}
 use Rattle.paired_code.specs.Machine.{state, Image, act, reversed, reversed_word, effect_along, is_single_op, is_single}
-use Rattle.paired_code.specs.Machine.{is_end_op, is_end, reg, change_by, change, Same, Level, same}
-use Rattle.paired_code.specs.Layout.{xor, Frame, spot, place, at, between}
+use Rattle.paired_code.specs.Machine.{is_end_op, is_end, memory_reg, change_by, change, Same, Level, same}
+use Rattle.paired_code.specs.Layout.{bool_xor, Frame, spot, frame_address, at, between}
 use Rattle.paired_code.specs.Pieces.{cell, Path, stay, step, Way}
 use Rattle.paired_code.proofs.Words.{along, turned, is_positive, is_negative, place_along, flipped, opposite_twice}
 use Rattle.paired_code.proofs.Words.{toward, first_br, second_br, goes_to, near, far, near_is, far_is}
@@ -30,14 +30,14 @@ oriented true c = reversed c
 
 -- the cell is at the line's cell x
 abbrev pub Has : Image → Frame → ℕ → Cell → Type 0
-Has im f x c = fetch im.code (place f x) ≡ Some (oriented f.flip c)
+Has im f x c = fetch im.code (frame_address f x) ≡ Some (oriented f.flip c)
 
 -- an instruction that only changes the memory, here
 pub record Calm (flip d : Bool) (c : Cell) (m m' : Memory) : Type 0 where
-  pub acts : (pc : ℤ) → effect (oriented flip c) (state pc 0 (xor flip d) m) ≡ state pc 0 (xor flip d) m'
+  pub acts : (pc : ℤ) → effect (oriented flip c) (state pc 0 (bool_xor flip d) m) ≡ state pc 0 (bool_xor flip d) m'
   pub own : is_end (oriented flip c) ≡ false
-  pub goes : (pc : ℤ) → stop_at (Some (oriented flip c)) (state pc 0 (xor flip d) m) ≡ None
-  pub level : (rs : List ℕ) (pc : ℤ) → change rs (oriented flip c) (state pc 0 (xor flip d) m) ≡ Same
+  pub goes : (pc : ℤ) → stop_at (Some (oriented flip c)) (state pc 0 (bool_xor flip d) m) ≡ None
+  pub level : (rs : List ℕ) (pc : ℤ) → change rs (oriented flip c) (state pc 0 (bool_xor flip d) m) ≡ Same
 
 -- a branch that is taken, here
 pub record Takes (flip : Bool) (c : Cell) (m : Memory) (w : ℕ) : Type 0 where
@@ -53,41 +53,41 @@ moved_is pc pc' br k m e = ap (λ z. state z br k m) (place_along k pc br ∙ e)
 
 -- one step from a cell's place
 one : (im : Image) (f : Frame) (a b x : ℕ) (c : Cell) (br br' : ℕ) (k : Bool) (m m' : Memory) (pc' : ℤ) → a ≤ x → x < b
-    → fetch im.code (place f x) ≡ Some c → stop_at (Some c) (state (place f x) br k m) ≡ None → is_end c ≡ false
-    → change im.routines c (state (place f x) br k m) ≡ Same
-    → effect c (state (place f x) br k m) ≡ state (place f x) br' k m' → place f x +ℤ along k (stride br') ≡ pc'
-    → Path im f a b 1 0 (state (place f x) br k m) 0 (state pc' br' k m')
+    → fetch im.code (frame_address f x) ≡ Some c → stop_at (Some c) (state (frame_address f x) br k m) ≡ None → is_end c ≡ false
+    → change im.routines c (state (frame_address f x) br k m) ≡ Same
+    → effect c (state (frame_address f x) br k m) ≡ state (frame_address f x) br' k m' → frame_address f x +ℤ along k (stride br') ≡ pc'
+    → Path im f a b 1 0 (state (frame_address f x) br k m) 0 (state pc' br' k m')
 one im f a b x c br br' k m m' pc' lo hi h n v l e1 e2 =
-    let s = state (place f x) br k m in
-    let e : act c s ≡ state pc' br' k m' = ap moved e1 ∙ moved_is (place f x) pc' br' k m' e2 in
+    let s = state (frame_address f x) br k m in
+    let e : act c s ≡ state pc' br' k m' = ap moved e1 ∙ moved_is (frame_address f x) pc' br' k m' e2 in
     let lv : Level (change im.routines c s) 0 0 = subst (λ g. Level g 0 0) (sym l) same in
     subst (λ t. Path im f a b 1 0 s 0 t) e (step c (cell x lo hi) h n v lv stay)
 
 pub calm_way : (im : Image) (f : Frame) (d : Bool) (a b x : ℕ) (c : Cell) (m m' : Memory) → a ≤ x → x < b → Has im f x c
     → Calm f.flip d c m m' → Way im f d a b 1 (near d x) m (far d x) m'
 calm_way im f d a b x c m m' lo hi h q =
-    let p = one im f a b x (oriented f.flip c) 0 0 (xor f.flip d) m m' (spot f.flip d f.base (far d x)) lo hi h
-    (q.goes (place f x)) q.own (q.level im.routines (place f x)) (q.acts (place f x)) (far_is f.flip d f.base x) in
+    let p = one im f a b x (oriented f.flip c) 0 0 (bool_xor f.flip d) m m' (spot f.flip d f.base (far d x)) lo hi h
+    (q.goes (frame_address f x)) q.own (q.level im.routines (frame_address f x)) (q.acts (frame_address f x)) (far_is f.flip d f.base x) in
     record {
-      path = subst (λ z. Path im f a b 1 0 (state z 0 (xor f.flip d) m) 0 (at f d (far d x) m'))
+      path = subst (λ z. Path im f a b 1 0 (state z 0 (bool_xor f.flip d) m) 0 (at f d (far d x) m'))
           (sym (near_is f.flip d f.base x)) p;
     }
 
 -- a branch that is taken, as one step from its place
 taken : (im : Image) (f : Frame) (a b x : ℕ) (c : Cell) (br w br' : ℕ) (k : Bool) (m : Memory) (pc' : ℤ) → a ≤ x → x < b
     → Has im f x c → Takes f.flip c m w → sum_of br (turned k (flipped f.flip w)) ≡ br'
-    → place f x +ℤ along k (stride br') ≡ pc' → Path im f a b 1 0 (state (place f x) br k m) 0 (state pc' br' k m)
+    → frame_address f x +ℤ along k (stride br') ≡ pc' → Path im f a b 1 0 (state (frame_address f x) br k m) 0 (state pc' br' k m)
 taken im f a b x c br w br' k m pc' lo hi h q e g =
-    one im f a b x (oriented f.flip c) br br' k m m pc' lo hi h (q.goes (place f x) br k) q.own
-    (q.level im.routines (place f x) br k) (q.acts (place f x) br k ∙ ap (λ z. state (place f x) z k m) e) g
+    one im f a b x (oriented f.flip c) br br' k m m pc' lo hi h (q.goes (frame_address f x) br k) q.own
+    (q.level im.routines (frame_address f x) br k) (q.acts (frame_address f x) br k ∙ ap (λ z. state (frame_address f x) z k m) e) g
 
 pub hop_way : (im : Image) (f : Frame) (d : Bool) (a b x y : ℕ) (c c' : Cell) (m : Memory) → x ≢ y → x < 2 ^ 30
     → y < 2 ^ 30 → a ≤ x → x < b → a ≤ y → y < b → Has im f x c → Has im f y c' → Takes f.flip c m (between x y)
     → Takes f.flip c' m (between y x) → Way im f d a b 2 (near d x) m (far d y) m
 hop_way im f d a b x y c c' m ne hx hy lx ux ly uy h h' q q' =
-    let k = xor f.flip d in
+    let k = bool_xor f.flip d in
     let w = toward d x y in
-    let p1 = taken im f a b x c 0 (between x y) w k m (place f y) lx ux h q (first_br f.flip d x y ne hx hy)
+    let p1 = taken im f a b x c 0 (between x y) w k m (frame_address f y) lx ux h q (first_br f.flip d x y ne hx hy)
     (goes_to f.flip d f.base x y ne hx hy) in
     let p2 = taken im f a b y c' w (between y x) 0 k m (spot f.flip d f.base (far d y)) ly uy h' q'
     (second_br f.flip d x y ne hx hy) (far_is f.flip d f.base y) in
@@ -99,13 +99,13 @@ hop_way im f d a b x y c c' m ne hx hy lx ux ly uy h h' q q' =
 -- a branch that is taken, as one step from the gap before it to the place that it leads to
 pub leap : (im : Image) (f : Frame) (d : Bool) (a b x y : ℕ) (c : Cell) (m : Memory) → x ≢ y → x < 2 ^ 30 → y < 2 ^ 30
     → a ≤ x → x < b → Has im f x c → Takes f.flip c m (between x y)
-    → Path im f a b 1 0 (at f d (near d x) m) 0 (state (place f y) (toward d x y) (xor f.flip d) m)
+    → Path im f a b 1 0 (at f d (near d x) m) 0 (state (frame_address f y) (toward d x y) (bool_xor f.flip d) m)
 leap im f d a b x y c m ne hx hy lx ux h q =
-    let k = xor f.flip d in
+    let k = bool_xor f.flip d in
     let w = toward d x y in
-    let p1 = taken im f a b x c 0 (between x y) w k m (place f y) lx ux h q (first_br f.flip d x y ne hx hy)
+    let p1 = taken im f a b x c 0 (between x y) w k m (frame_address f y) lx ux h q (first_br f.flip d x y ne hx hy)
     (goes_to f.flip d f.base x y ne hx hy) in
-    subst (λ z. Path im f a b 1 0 (state z 0 k m) 0 (state (place f y) w k m)) (sym (near_is f.flip d f.base x)) p1
+    subst (λ z. Path im f a b 1 0 (state z 0 k m) 0 (state (frame_address f y) w k m)) (sym (near_is f.flip d f.base x)) p1
 
 -- ---- the branches
 
@@ -120,28 +120,28 @@ bra_acts false true m w pc br = refl
 bra_acts true false m w pc br = refl
 bra_acts true true m w pc br = refl
 
-gt_acts : (flip k : Bool) (r : ℕ) (m : Memory) (w : ℕ) (t : Bool) → is_positive (reg m r) ≡ t → (pc : ℤ) (br : ℕ)
+gt_acts : (flip k : Bool) (r : ℕ) (m : Memory) (w : ℕ) (t : Bool) → is_positive (memory_reg m r) ≡ t → (pc : ℤ) (br : ℕ)
     → effect (oriented flip (bgtz r w)) (state pc br k m) ≡ state pc (after_test t br (turned k (flipped flip w))) k m
 gt_acts false false r m w t h pc br = ap (λ t. state pc (after_test t br w) false m) h
 gt_acts false true r m w t h pc br = ap (λ t. state pc (after_test t br (turned true w)) true m) h
 gt_acts true false r m w t h pc br = ap (λ t. state pc (after_test t br (flipped true w)) false m) h
 gt_acts true true r m w t h pc br = ap (λ t. state pc (after_test t br (turned true (flipped true w))) true m) h
 
-lt_acts : (flip k : Bool) (r : ℕ) (m : Memory) (w : ℕ) (t : Bool) → is_negative (reg m r) ≡ t → (pc : ℤ) (br : ℕ)
+lt_acts : (flip k : Bool) (r : ℕ) (m : Memory) (w : ℕ) (t : Bool) → is_negative (memory_reg m r) ≡ t → (pc : ℤ) (br : ℕ)
     → effect (oriented flip (bltz r w)) (state pc br k m) ≡ state pc (after_test t br (turned k (flipped flip w))) k m
 lt_acts false false r m w t h pc br = ap (λ t. state pc (after_test t br w) false m) h
 lt_acts false true r m w t h pc br = ap (λ t. state pc (after_test t br (turned true w)) true m) h
 lt_acts true false r m w t h pc br = ap (λ t. state pc (after_test t br (flipped true w)) false m) h
 lt_acts true true r m w t h pc br = ap (λ t. state pc (after_test t br (turned true (flipped true w))) true m) h
 
-eq_acts : (flip k : Bool) (r s : ℕ) (m : Memory) (w : ℕ) (t : Bool) → nat_eq (reg m r) (reg m s) ≡ t → (pc : ℤ) (br : ℕ)
+eq_acts : (flip k : Bool) (r s : ℕ) (m : Memory) (w : ℕ) (t : Bool) → nat_eq (memory_reg m r) (memory_reg m s) ≡ t → (pc : ℤ) (br : ℕ)
     → effect (oriented flip (beq r s w)) (state pc br k m) ≡ state pc (after_test t br (turned k (flipped flip w))) k m
 eq_acts false false r s m w t h pc br = ap (λ t. state pc (after_test t br w) false m) h
 eq_acts false true r s m w t h pc br = ap (λ t. state pc (after_test t br (turned true w)) true m) h
 eq_acts true false r s m w t h pc br = ap (λ t. state pc (after_test t br (flipped true w)) false m) h
 eq_acts true true r s m w t h pc br = ap (λ t. state pc (after_test t br (turned true (flipped true w))) true m) h
 
-ne_acts : (flip k : Bool) (r s : ℕ) (m : Memory) (w : ℕ) (t : Bool) → nat_eq (reg m r) (reg m s) ≡ t → (pc : ℤ) (br : ℕ)
+ne_acts : (flip k : Bool) (r s : ℕ) (m : Memory) (w : ℕ) (t : Bool) → nat_eq (memory_reg m r) (memory_reg m s) ≡ t → (pc : ℤ) (br : ℕ)
     → effect (oriented flip (bne r s w)) (state pc br k m)
     ≡ state pc (after_test (not t) br (turned k (flipped flip w))) k m
 ne_acts false false r s m w t h pc br = ap (λ t. state pc (after_test (not t) br w) false m) h
@@ -164,7 +164,7 @@ takes_bra true m w = record {
   level = λ rs pc b k. refl;
 }
 
-pub takes_gt : (flip : Bool) (r : ℕ) (m : Memory) (w : ℕ) → is_positive (reg m r) ≡ true → Takes flip (bgtz r w) m w
+pub takes_gt : (flip : Bool) (r : ℕ) (m : Memory) (w : ℕ) → is_positive (memory_reg m r) ≡ true → Takes flip (bgtz r w) m w
 takes_gt false r m w h = record {
   acts = λ pc b k. gt_acts false k r m w true h pc b;
   own = refl;
@@ -178,7 +178,7 @@ takes_gt true r m w h = record {
   level = λ rs pc b k. refl;
 }
 
-pub takes_lt : (flip : Bool) (r : ℕ) (m : Memory) (w : ℕ) → is_negative (reg m r) ≡ true → Takes flip (bltz r w) m w
+pub takes_lt : (flip : Bool) (r : ℕ) (m : Memory) (w : ℕ) → is_negative (memory_reg m r) ≡ true → Takes flip (bltz r w) m w
 takes_lt false r m w h = record {
   acts = λ pc b k. lt_acts false k r m w true h pc b;
   own = refl;
@@ -192,7 +192,7 @@ takes_lt true r m w h = record {
   level = λ rs pc b k. refl;
 }
 
-pub takes_eq : (flip : Bool) (r s : ℕ) (m : Memory) (w : ℕ) → nat_eq (reg m r) (reg m s) ≡ true
+pub takes_eq : (flip : Bool) (r s : ℕ) (m : Memory) (w : ℕ) → nat_eq (memory_reg m r) (memory_reg m s) ≡ true
     → Takes flip (beq r s w) m w
 takes_eq false r s m w h = record {
   acts = λ pc b k. eq_acts false k r s m w true h pc b;
@@ -207,22 +207,22 @@ takes_eq true r s m w h = record {
   level = λ rs pc b k. refl;
 }
 
-pub calm_eq : (flip d : Bool) (r s : ℕ) (m : Memory) (w : ℕ) → nat_eq (reg m r) (reg m s) ≡ false
+pub calm_eq : (flip d : Bool) (r s : ℕ) (m : Memory) (w : ℕ) → nat_eq (memory_reg m r) (memory_reg m s) ≡ false
     → Calm flip d (beq r s w) m m
 calm_eq false d r s m w h = record {
-  acts = λ pc. eq_acts false (xor false d) r s m w false h pc 0;
+  acts = λ pc. eq_acts false (bool_xor false d) r s m w false h pc 0;
   own = refl;
   goes = λ pc. refl;
   level = λ rs pc. refl;
 }
 calm_eq true d r s m w h = record {
-  acts = λ pc. eq_acts true (xor true d) r s m w false h pc 0;
+  acts = λ pc. eq_acts true (bool_xor true d) r s m w false h pc 0;
   own = refl;
   goes = λ pc. refl;
   level = λ rs pc. refl;
 }
 
-pub takes_ne : (flip : Bool) (r s : ℕ) (m : Memory) (w : ℕ) → nat_eq (reg m r) (reg m s) ≡ false
+pub takes_ne : (flip : Bool) (r s : ℕ) (m : Memory) (w : ℕ) → nat_eq (memory_reg m r) (memory_reg m s) ≡ false
     → Takes flip (bne r s w) m w
 takes_ne false r s m w h = record {
   acts = λ pc b k. ne_acts false k r s m w false h pc b;
@@ -237,44 +237,44 @@ takes_ne true r s m w h = record {
   level = λ rs pc b k. refl;
 }
 
-pub calm_ne : (flip d : Bool) (r s : ℕ) (m : Memory) (w : ℕ) → nat_eq (reg m r) (reg m s) ≡ true
+pub calm_ne : (flip d : Bool) (r s : ℕ) (m : Memory) (w : ℕ) → nat_eq (memory_reg m r) (memory_reg m s) ≡ true
     → Calm flip d (bne r s w) m m
 calm_ne false d r s m w h = record {
-  acts = λ pc. ne_acts false (xor false d) r s m w true h pc 0;
+  acts = λ pc. ne_acts false (bool_xor false d) r s m w true h pc 0;
   own = refl;
   goes = λ pc. refl;
   level = λ rs pc. refl;
 }
 calm_ne true d r s m w h = record {
-  acts = λ pc. ne_acts true (xor true d) r s m w true h pc 0;
+  acts = λ pc. ne_acts true (bool_xor true d) r s m w true h pc 0;
   own = refl;
   goes = λ pc. refl;
   level = λ rs pc. refl;
 }
 
-pub calm_gt : (flip d : Bool) (r : ℕ) (m : Memory) (w : ℕ) → is_positive (reg m r) ≡ false → Calm flip d (bgtz r w) m m
+pub calm_gt : (flip d : Bool) (r : ℕ) (m : Memory) (w : ℕ) → is_positive (memory_reg m r) ≡ false → Calm flip d (bgtz r w) m m
 calm_gt false d r m w h = record {
-  acts = λ pc. gt_acts false (xor false d) r m w false h pc 0;
+  acts = λ pc. gt_acts false (bool_xor false d) r m w false h pc 0;
   own = refl;
   goes = λ pc. refl;
   level = λ rs pc. refl;
 }
 calm_gt true d r m w h = record {
-  acts = λ pc. gt_acts true (xor true d) r m w false h pc 0;
+  acts = λ pc. gt_acts true (bool_xor true d) r m w false h pc 0;
   own = refl;
   goes = λ pc. refl;
   level = λ rs pc. refl;
 }
 
-pub calm_lt : (flip d : Bool) (r : ℕ) (m : Memory) (w : ℕ) → is_negative (reg m r) ≡ false → Calm flip d (bltz r w) m m
+pub calm_lt : (flip d : Bool) (r : ℕ) (m : Memory) (w : ℕ) → is_negative (memory_reg m r) ≡ false → Calm flip d (bltz r w) m m
 calm_lt false d r m w h = record {
-  acts = λ pc. lt_acts false (xor false d) r m w false h pc 0;
+  acts = λ pc. lt_acts false (bool_xor false d) r m w false h pc 0;
   own = refl;
   goes = λ pc. refl;
   level = λ rs pc. refl;
 }
 calm_lt true d r m w h = record {
-  acts = λ pc. lt_acts true (xor true d) r m w false h pc 0;
+  acts = λ pc. lt_acts true (bool_xor true d) r m w false h pc 0;
   own = refl;
   goes = λ pc. refl;
   level = λ rs pc. refl;
@@ -314,7 +314,7 @@ inverse_of_twice c h = ap (λ o. record c { op = o; imm = inverse_word (inverse_
     (inverse_op-twice c.op) ∙ ap (λ i. record c { imm = i }) (inverse_word-twice c.op c.imm h)
 
 -- which instruction acts does not depend on the direction of the cell
-faced_is : (flip d : Bool) (c : Cell) → c.imm < 2 ^ 32 → faced (xor flip d) (oriented flip c) ≡ faced d c
+faced_is : (flip d : Bool) (c : Cell) → c.imm < 2 ^ 32 → faced (bool_xor flip d) (oriented flip c) ≡ faced d c
 faced_is false d c h = refl
 faced_is true false c h = ap inverse_of (reversed_is c h) ∙ inverse_of_twice c h
 faced_is true true c h = reversed_is c h
@@ -405,39 +405,39 @@ abbrev pub has_its_cell : Cell → Memory → Bool
 has_its_cell c m = has_cell c.op c.b (state (pos 0) 0 false m)
 
 pub single_stop : (flip k : Bool) (c : Cell) (m : Memory) (pc : ℤ) → is_single c ≡ true
-    → stop_at (Some (oriented flip c)) (state pc 0 k m) ≡ stop_by (has_its_cell c m) (reg m c.b)
+    → stop_at (Some (oriented flip c)) (state pc 0 k m) ≡ stop_by (has_its_cell c m) (memory_reg m c.b)
 single_stop flip k c m pc h =
     let s = state pc 0 k m in
     stop_op (oriented flip c).op (oriented flip c) s (single_oriented flip c h)
-    ∙ ap (λ b. stop_by (has_cell (oriented flip c).op b s) (reg m b)) (b_oriented flip c)
-    ∙ ap (λ t. stop_by t (reg m c.b)) (cell_oriented flip c s ∙ cell_op c.op c.b pc k m)
+    ∙ ap (λ b. stop_by (has_cell (oriented flip c).op b s) (memory_reg m b)) (b_oriented flip c)
+    ∙ ap (λ t. stop_by t (memory_reg m c.b)) (cell_oriented flip c s ∙ cell_op c.op c.b pc k m)
 
 pub calm_single : (flip d : Bool) (c : Cell) (m : Memory) → is_single c ≡ true → c.imm < 2 ^ 32
     → has_its_cell c m ≡ true → Calm flip d c m (effect_along d c m)
 calm_single flip d c m h w t =
     let x = faced d c in
     record {
-      acts = λ pc. ap (λ (z : Cell). row_of z (state pc 0 (xor flip d) m)) (faced_is flip d c w)
-          ∙ single_acts x.op x.a x.b x.c x.imm (single_faced d c h) pc (xor flip d) m;
+      acts = λ pc. ap (λ (z : Cell). row_of z (state pc 0 (bool_xor flip d) m)) (faced_is flip d c w)
+          ∙ single_acts x.op x.a x.b x.c x.imm (single_faced d c h) pc (bool_xor flip d) m;
       own = single_own (oriented flip c) (single_oriented flip c h);
-      goes = λ pc. single_stop flip (xor flip d) c m pc h ∙ ap (λ t. stop_by t (reg m c.b)) t;
+      goes = λ pc. single_stop flip (bool_xor flip d) c m pc h ∙ ap (λ t. stop_by t (memory_reg m c.b)) t;
       level = λ rs pc. level_op (oriented flip c).op (single_oriented flip c h) rs (oriented flip c).a
-          (state pc 0 (xor flip d) m);
+          (state pc 0 (bool_xor flip d) m);
     }
 
 -- the same of a cell as the machine has it
 pub raw_way : (im : Image) (f : Frame) (d : Bool) (a b x : ℕ) (c : Cell) (m : Memory) → a ≤ x → x < b
-    → fetch im.code (place f x) ≡ Some c → is_single c ≡ true → has_its_cell c m ≡ true
-    → Way im f d a b 1 (near d x) m (far d x) (effect_along (xor f.flip d) c m)
+    → fetch im.code (frame_address f x) ≡ Some c → is_single c ≡ true → has_its_cell c m ≡ true
+    → Way im f d a b 1 (near d x) m (far d x) (effect_along (bool_xor f.flip d) c m)
 raw_way im f d a b x c m lo hi h s t =
-    let k = xor f.flip d in
+    let k = bool_xor f.flip d in
     let y = faced k c in
     let m' = effect_along k c m in
-    let n : stop_at (Some c) (state (place f x) 0 k m) ≡ None = single_stop false k c m (place f x) s
-    ∙ ap (λ t. stop_by t (reg m c.b)) t in
+    let n : stop_at (Some c) (state (frame_address f x) 0 k m) ≡ None = single_stop false k c m (frame_address f x) s
+    ∙ ap (λ t. stop_by t (memory_reg m c.b)) t in
     let p = one im f a b x c 0 0 k m m' (spot f.flip d f.base (far d x)) lo hi h n (single_own c s)
-    (level_op c.op s im.routines c.a (state (place f x) 0 k m))
-    (single_acts y.op y.a y.b y.c y.imm (single_faced k c s) (place f x) k m) (far_is f.flip d f.base x) in
+    (level_op c.op s im.routines c.a (state (frame_address f x) 0 k m))
+    (single_acts y.op y.a y.b y.c y.imm (single_faced k c s) (frame_address f x) k m) (far_is f.flip d f.base x) in
     record {
       path = subst (λ z. Path im f a b 1 0 (state z 0 k m) 0 (at f d (far d x) m'))
           (sym (near_is f.flip d f.base x)) p;

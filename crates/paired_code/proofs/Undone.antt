@@ -12,20 +12,20 @@ use Rattle.code_conventions.specs.pisa_isa.declared.cell.Op.TheVariants.{Exch, S
 use Rattle.code_conventions.specs.pisa_isa.declared.cell.Op.TheVariants.{Start, Finish, DataWord}
 use Rattle.code_conventions.specs.pisa_isa.declared.cell.Cell.{Cell}
 use Rattle.code_conventions.specs.pisa_isa.Table.{IsCell, inverse_op, b_is_source, new_value}
-use Rattle.code_conventions.specs.pisa_isa.Machine.{State, turned, effect, row, row_of, faced, has_cell, Memory, memory_of}
+use Rattle.code_conventions.specs.pisa_isa.Machine.{State, turned_state, effect, row, row_of, faced, has_cell, Memory, memory_of}
 use Rattle.code_conventions.proofs.pisa_isa_laws.Back.{Apart-cell}
 use Rattle.code_conventions.proofs.pisa_isa_laws.Effect.{Fits, effect-twice}
 use Rattle.code_conventions.proofs.pisa_isa_laws.Keeps.{new_value-lt}
 use Rattle.code_conventions.proofs.pisa_isa_laws.Ranges.{a_below, b_below, c_below, imm_word}
 use Rattle.paired_code.specs.declared.part.Symbol.{Symbol}
 use Rattle.paired_code.specs.declared.part.Symbol.TheVariants.{Own}
-use Rattle.paired_code.specs.Machine.{Image, state, reg as reg_of, is_single, is_single_op, effect_along}
+use Rattle.paired_code.specs.Machine.{Image, state, memory_reg as reg_of, is_single, is_single_op, effect_along}
 use Rattle.paired_code.specs.Layout.{mirror_cells}
-use Rattle.paired_code.specs.Pieces.{Outcome, Done, Trapped, Bad, Still, Runs, after}
+use Rattle.paired_code.specs.Pieces.{Outcome, Done, Trapped, Bad, Still, Runs, outcome_after}
 use Rattle.paired_code.proofs.Steps.{has_its_cell}
 use Rattle.paired_code.proofs.Small.{runs_empty, runs_single}
 use Rattle.paired_code.proofs.Contract.{seq_law, mirror_law}
-use Rattle.paired_code.specs.Rows.{line, within}
+use Rattle.paired_code.specs.Rows.{line, within_symbols}
 
 -- 32 registers, and cells, of words
 pub record HoldsWords (m : Memory) : Type 0 where
@@ -172,11 +172,11 @@ effect_back c m h k w t =
       found = found_too c.op c.b m t;
     } in
     let same : e.back ≡ false = row_back c.op c.a c.b c.c c.imm s h in
-    let undone : effect c (turned e) ≡ turned s = effect-twice c.op c.a c.b c.c c.imm (pos 0) 0 false m.regs m.cells
+    let undone : effect c (turned_state e) ≡ turned_state s = effect-twice c.op c.a c.b c.c c.imm (pos 0) 0 false m.regs m.cells
     fits in
-    let free : memory_of (row_of d (turned e)) ≡ memory_of (row_of d (at_first (memory_of e))) =
-    row_free d.op d.a d.b d.c d.imm (turned e) (single_inverse c.op h) in
-    sym free ∙ ap (λ b. memory_of (row_of (faced (not b) c) (turned e))) (sym same) ∙ ap memory_of undone
+    let free : memory_of (row_of d (turned_state e)) ≡ memory_of (row_of d (at_first (memory_of e))) =
+    row_free d.op d.a d.b d.c d.imm (turned_state e) (single_inverse c.op h) in
+    sym free ∙ ap (λ b. memory_of (row_of (faced (not b) c) (turned_state e))) (sym same) ∙ ap memory_of undone
 
 -- ---- rows
 
@@ -197,12 +197,12 @@ went_words p w (goes {c = c} {m = m} h r) = went_words p.2 (effect_words c m p.0
 
 -- one part and the next, in either direction
 pub ahead : (im : Image) (p q : List Symbol) (m m1 : Memory) (k : ℕ) (o : Outcome) → Runs im p false m (Done m1 k)
-    → Runs im q false m1 o → Runs im (p ++ q) false m (after k o)
+    → Runs im q false m1 o → Runs im (p ++ q) false m (outcome_after k o)
 ahead im p q m m1 k o a b = (seq_law p q).ahead im m (Done m1 k) (λ x. o) a
     (λ x j e. subst (λ z. Runs im q false z o) (of_done m1 x k j e) b)
 
 pub behind : (im : Image) (p q : List Symbol) (m m1 : Memory) (k : ℕ) (o : Outcome) → Runs im q true m (Done m1 k)
-    → Runs im p true m1 o → Runs im (p ++ q) true m (after k o)
+    → Runs im p true m1 o → Runs im (p ++ q) true m (outcome_after k o)
 behind im p q m m1 k o a b = (seq_law p q).back im m (Done m1 k) (λ x. o) a
     (λ x j e. subst (λ z. Runs im p true z o) (of_done m1 x k j e) b)
 
@@ -264,13 +264,13 @@ turned_runs im p d m o r = (mirror_law p).turns im d m o r
 -- a row, a fragment in a direction, and the row back
 pub within_runs : (im : Image) (d : Bool) (cs : List Cell) (piece : List Symbol) (m m1 m2 m3 : Memory) (k : ℕ)
     → AllPlain cs → HoldsWords m3 → Went cs m m1 → Runs im piece d m1 (Done m2 k) → Went cs m3 m2
-    → Runs im (within cs piece) d m (Done m3 (length cs + (k + length cs)))
+    → Runs im (within_symbols cs piece) d m (Done m3 (length cs + (k + length cs)))
 within_runs im false cs piece m m1 m2 m3 k p w a r b =
     ahead im (line cs) (piece ++ mirror_cells (line cs)) m m1 (length cs) (Done m3 (k + length cs)) (went_ahead im p a)
     (ahead im piece (mirror_cells (line cs)) m1 m2 k (Done m3 (length cs)) r
     (turned_runs im (line cs) false m2 _ (went_behind im p w b)))
 within_runs im true cs piece m m1 m2 m3 k p w a r b =
-    steps_are im (within cs piece) true m m3 (length cs + k + length cs) (length cs + (k + length cs)) (omega arith)
+    steps_are im (within_symbols cs piece) true m m3 (length cs + k + length cs) (length cs + (k + length cs)) (omega arith)
     (behind im (line cs) (piece ++ mirror_cells (line cs)) m m2 (length cs + k) (Done m3 (length cs))
     (behind im piece (mirror_cells (line cs)) m m1 (length cs) (Done m2 k)
     (turned_runs im (line cs) true m _ (went_ahead im p a)) r)
@@ -283,7 +283,7 @@ first_traps im p q m w k r = (seq_law p q).ahead im m (Trapped w k) (λ x. Still
 
 pub within_traps : (im : Image) (cs : List Cell) (piece : List Symbol) (m m1 : Memory) (w k : ℕ) → AllPlain cs
     → Went cs m m1 → Runs im piece false m1 (Trapped w k)
-    → Runs im (within cs piece) false m (Trapped w (length cs + k))
+    → Runs im (within_symbols cs piece) false m (Trapped w (length cs + k))
 within_traps im cs piece m m1 w k p a r =
     ahead im (line cs) (piece ++ mirror_cells (line cs)) m m1 (length cs) (Trapped w k) (went_ahead im p a)
     (first_traps im piece (mirror_cells (line cs)) m1 w k r)

@@ -12,10 +12,10 @@ use Rattle.paired_code.specs.declared.part.Symbol.TheVariants.{Own}
 use Rattle.code_conventions.specs.pisa_isa.Machine.{fetch, Memory}
 use Rattle.code_conventions.specs.pisa_isa.declared.machine.Stop.{Stop}
 use Rattle.paired_code.proofs.Words.{is_positive, is_negative, near, far}
-use Rattle.paired_code.specs.Machine.{Image, reg}
-use Rattle.paired_code.specs.Layout.{Frame, place, between, resolved, Stands}
-use Rattle.paired_code.specs.Pieces.{stay, Outcome, Done, Way, Halts, Ends, finishes, traps, bad, still, after, then_do}
-use Rattle.paired_code.specs.Pieces.{around}
+use Rattle.paired_code.specs.Machine.{Image, memory_reg}
+use Rattle.paired_code.specs.Layout.{Frame, frame_address, between, resolved, Stands}
+use Rattle.paired_code.specs.Pieces.{stay, Outcome, Done, Way, Halts, Ends, finishes, traps, bad, still, outcome_after, then_do}
+use Rattle.paired_code.specs.Pieces.{outcome_around}
 use Rattle.paired_code.proofs.Paths.{append, widen, inside_wider}
 use Rattle.paired_code.proofs.Steps.{oriented, Has, Takes, calm_way, hop_way, takes_bra, takes_gt, takes_lt, calm_gt}
 use Rattle.paired_code.proofs.Steps.{calm_lt}
@@ -36,9 +36,9 @@ own_is : (im : Image) (flip : Bool) (p : ℤ) (c : Cell) → resolved im flip p 
 own_is im false p c = refl
 own_is im true p c = refl
 
-pub has : (im : Image) (f : Frame) (i : ℕ) (c : Cell) → fetch im.code (place f i)
-    ≡ Some (resolved im f.flip (place f i) (Own c)) → Has im f i c
-has im f i c h = h ∙ ap Some (own_is im f.flip (place f i) c)
+pub has : (im : Image) (f : Frame) (i : ℕ) (c : Cell) → fetch im.code (frame_address f i)
+    ≡ Some (resolved im f.flip (frame_address f i) (Own c)) → Has im f i c
+has im f i c h = h ∙ ap Some (own_is im f.flip (frame_address f i) c)
 
 -- ---- ways
 
@@ -90,7 +90,7 @@ halts_after w h = record {
 }
 
 pub ends_after : {im : Image} {f : Frame} {d : Bool} {a b n i j l : ℕ} {m m1 : Memory} {o : Outcome}
-    → Way im f d a b n i m j m1 → Ends im f d a b j m1 l o → Ends im f d a b i m l (after n o)
+    → Way im f d a b n i m j m1 → Ends im f d a b j m1 l o → Ends im f d a b i m l (outcome_after n o)
 ends_after w (finishes v) = finishes (and_then w v)
 ends_after w (traps h) = traps (halts_after w h)
 ends_after w (bad h) = bad (halts_after w h)
@@ -107,7 +107,7 @@ ends_then (still g) r = still g
 -- a way before, and a way after where the run leaves
 pub ends_around : {im : Image} {f : Frame} {d : Bool} {a b x y i i' j j' : ℕ} {m : Memory} {o : Outcome}
     → Way im f d a b x i m i' m → Ends im f d a b i' m j o
-    → ((m1 : Memory) (k : ℕ) → o ≡ Done m1 k → Way im f d a b y j m1 j' m1) → Ends im f d a b i m j' (around x y o)
+    → ((m1 : Memory) (k : ℕ) → o ≡ Done m1 k → Way im f d a b y j m1 j' m1) → Ends im f d a b i m j' (outcome_around x y o)
 ends_around w e r = ends_after w (ends_then e (λ m1 k h. finishes (r m1 k h)))
 
 -- ---- a register that is 0 or not
@@ -130,9 +130,9 @@ pub record Fork (im : Image) (f : Frame) (r x w : ℕ) : Type 0 where
   pub first : Has im f x (bgtz r w)
   pub second : Has im f (x + 1) (bltz r w)
 
-pub fork_at : (im : Image) (f : Frame) (r x w : ℕ) → fetch im.code (place f x)
-    ≡ Some (resolved im f.flip (place f x) (Own (bgtz r w)))
-    → fetch im.code (place f (x + 1)) ≡ Some (resolved im f.flip (place f (x + 1)) (Own (bltz r w))) → Fork im f r x w
+pub fork_at : (im : Image) (f : Frame) (r x w : ℕ) → fetch im.code (frame_address f x)
+    ≡ Some (resolved im f.flip (frame_address f x) (Own (bgtz r w)))
+    → fetch im.code (frame_address f (x + 1)) ≡ Some (resolved im f.flip (frame_address f (x + 1)) (Own (bltz r w))) → Fork im f r x w
 fork_at im f r x w h k = record { first = has im f x (bgtz r w) h; second = has im f (x + 1) (bltz r w) k }
 
 -- the gaps before and after a fork
@@ -144,7 +144,7 @@ abbrev pub far2 : Bool → ℕ → ℕ
 far2 false x = x + 1 + 1
 far2 true x = x
 
-pub fork_passed : (im : Image) (f : Frame) (d : Bool) (a b r x w : ℕ) (m : Memory) → a ≤ x → x + 1 < b → reg m r ≡ 0
+pub fork_passed : (im : Image) (f : Frame) (d : Bool) (a b r x w : ℕ) (m : Memory) → a ≤ x → x + 1 < b → memory_reg m r ≡ 0
     → Fork im f r x w → Way im f d a b 2 (near2 d x) m (far2 d x) m
 fork_passed im f false a b r x w m lo hi z k =
     and_then (calm_way im f false a b x (bgtz r w) m m lo (omega arith) k.first
@@ -159,36 +159,36 @@ between_suc : (x y : ℕ) → x < 2 ^ 30 → y < 2 ^ 30 → between x y ≡ betw
 between_suc x y h k = omega arith
 
 pub fork_taken : (im : Image) (f : Frame) (d : Bool) (a b r x y : ℕ) (m : Memory) → x ≢ y → x + 1 < 2 ^ 30
-    → y + 1 < 2 ^ 30 → a ≤ x → x + 1 < b → a ≤ y → y + 1 < b → reg m r ≢ 0 → Fork im f r x (between x y)
+    → y + 1 < 2 ^ 30 → a ≤ x → x + 1 < b → a ≤ y → y + 1 < b → memory_reg m r ≢ 0 → Fork im f r x (between x y)
     → Fork im f r y (between y x) → Way im f d a b 3 (near2 d x) m (far2 d y) m
 fork_taken im f d a b r x y m ne hx hy lx ux ly uy nz p q =
-    ⊎_elim (λ s. positive d s.0 s.1) (λ s. negative d s.0 s.1) (not_zero (reg m r) nz)
+    ⊎_elim (λ s. positive d s.0 s.1) (λ s. negative d s.0 s.1) (not_zero (memory_reg m r) nz)
   where
     w : ℕ
     w = between x y
 
-    hop1 : (d : Bool) → is_positive (reg m r) ≡ true → Way im f d a b 2 (near d x) m (far d y) m
+    hop1 : (d : Bool) → is_positive (memory_reg m r) ≡ true → Way im f d a b 2 (near d x) m (far d y) m
     hop1 d s = hop_way im f d a b x y (bgtz r (between x y)) (bgtz r (between y x)) m ne (omega arith) (omega arith) lx
         (omega arith) ly (omega arith) p.first q.first (takes_gt f.flip r m _ s) (takes_gt f.flip r m _ s)
 
     ne1 : x + 1 ≢ y + 1
     ne1 e = ne (omega arith)
 
-    hop2 : (d : Bool) → is_negative (reg m r) ≡ true → Way im f d a b 2 (near d (x + 1)) m (far d (y + 1)) m
+    hop2 : (d : Bool) → is_negative (memory_reg m r) ≡ true → Way im f d a b 2 (near d (x + 1)) m (far d (y + 1)) m
     hop2 d s = hop_way im f d a b (x + 1) (y + 1) (bltz r (between x y)) (bltz r (between y x)) m ne1 hx hy
         (omega arith) ux (omega arith) uy p.second q.second
         (subst (λ z. Takes f.flip (bltz r (between x y)) m z) (between_suc x y (omega arith) (omega arith))
         (takes_lt f.flip r m _ s)) (subst (λ z. Takes f.flip (bltz r (between y x)) m z)
         (between_suc y x (omega arith) (omega arith)) (takes_lt f.flip r m _ s))
 
-    positive : (d : Bool) → is_positive (reg m r) ≡ true → is_negative (reg m r) ≡ false
+    positive : (d : Bool) → is_positive (memory_reg m r) ≡ true → is_negative (memory_reg m r) ≡ false
         → Way im f d a b 3 (near2 d x) m (far2 d y) m
     positive false s n = and_then (hop1 false s) (calm_way im f false a b (y + 1) (bltz r _) m m (omega arith) uy
         q.second (calm_lt f.flip false r m _ n))
     positive true s n = and_then (calm_way im f true a b (x + 1) (bltz r _) m m (omega arith) ux p.second
         (calm_lt f.flip true r m _ n)) (hop1 true s)
 
-    negative : (d : Bool) → is_positive (reg m r) ≡ false → is_negative (reg m r) ≡ true
+    negative : (d : Bool) → is_positive (memory_reg m r) ≡ false → is_negative (memory_reg m r) ≡ true
         → Way im f d a b 3 (near2 d x) m (far2 d y) m
     negative false n s = and_then (calm_way im f false a b x (bgtz r _) m m lx (omega arith) p.first
         (calm_gt f.flip false r m _ n)) (hop2 false s)

@@ -11,25 +11,25 @@ use Rattle.code_conventions.specs.pisa_isa.declared.cell.Cell.{Cell}
 use Rattle.code_conventions.specs.pisa_isa.declared.machine.Stop.{Stop}
 use Rattle.code_conventions.specs.pisa_isa.declared.machine.Stop.TheVariants.{Finished, Returned, Trap, BadAddress, OffCode, Bound}
 use Rattle.code_conventions.specs.pisa_isa.Table.{IsCell}
-use Rattle.code_conventions.specs.pisa_isa.Machine.{State, fetch, stop, stop_in, stop_at, is_zero, next, moved, effect_at, Memory}
+use Rattle.code_conventions.specs.pisa_isa.Machine.{State, fetch, stop, stop_in, stop_at, is_zero_word, next, moved, effect_at, Memory}
 use Rattle.code_conventions.specs.pisa_isa.Image.{is_start, is_finish, is_start_op, is_finish_op}
 use Rattle.code_conventions.specs.pisa_isa.Runs.{run, steps, started, unless_stop, visited, before_step, later, counted}
 use Rattle.code_conventions.specs.pisa_isa.Ends.{is_at_start, is_at_finish, cell_is, MeetsEndsOnce}
 use Rattle.code_conventions.proofs.pisa_isa_laws.Longer.{run-steps}
 use Rattle.code_conventions.proofs.pisa_isa_laws.Runs.{run-stop}
 use Rattle.code_conventions.specs.Cells.{neg, addi, bra}
-use Rattle.paired_code.specs.Cells.{swapbr, rbra, start, finish}
+use Rattle.paired_code.specs.Cells.{swapbr, rbra, start_cell, finish}
 use Rattle.paired_code.specs.declared.part.Symbol.{Symbol}
 use Rattle.paired_code.specs.declared.part.Symbol.TheVariants.{Own, Enter, Fixed, Aim, Turn}
 use Rattle.paired_code.specs.Machine.{state, Image, is_end_op, is_end}
 use Rattle.paired_code.specs.Layout.{base, between, offset_to, aim, six, code_line, Frame, at, Routine, Tidy}
-use Rattle.paired_code.specs.Fit.{IsInner, IsFit, AllFit, EachFit}
+use Rattle.paired_code.specs.Fit.{IsInner, IsFit, AllSymbolsFit, EachFit}
 use Rattle.paired_code.specs.Pieces.{Path, stay, step, Outcome, Done, Trapped, Bad, Still, Ends, finishes, traps, bad}
 use Rattle.paired_code.specs.Pieces.{still, Will}
-use Rattle.paired_code.specs.Link.{places, linked, routine_code, routines_code, first_top, link_code, link_image}
+use Rattle.paired_code.specs.Link.{link_positions, linked, routine_code, routines_code, first_top, link_code, link_image}
 use Rattle.paired_code.specs.Link.{link_size, AllPlaced, StopsAfter, GoesSo, IsToldBy, Whole, Linked}
-use Rattle.paired_code.specs.Closed.{Shape, IsMade, AllMade, cells_of_shape, shapes_cells, shape_at, top_at}
-use Rattle.paired_code.specs.Closed.{routines_of, Stand}
+use Rattle.paired_code.specs.Closed.{Shape, IsShapeMade, AllMade, cells_of_shape, shapes_cells, shape_at, top_at}
+use Rattle.paired_code.specs.Closed.{routines_of, RoutinesStand}
 use Rattle.paired_code.proofs.Fits.{inner_bra, word_between}
 use Rattle.paired_code.proofs.Literal.{in_words}
 use Rattle.paired_code.proofs.Closed.{closed}
@@ -105,7 +105,7 @@ inner_base rs z (Turn k b false) h = inner_addi 0 (omega arith)
 inner_base rs z (Turn false b true) h = inner_bra (six b) (word_six b)
 inner_base rs z (Turn true b true) h = inner_rbra (six b) (word_six b)
 
-pub inner_linked : (rs : List ℕ) (a : ℕ) (p : List Symbol) → AllFit p → AllInner (linked rs a p)
+pub inner_linked : (rs : List ℕ) (a : ℕ) (p : List Symbol) → AllSymbolsFit p → AllInner (linked rs a p)
 inner_linked rs a [] h = tt
 inner_linked rs a (c ∷ p) h = (inner_base rs (pos a) c h.0, inner_linked rs (a + 1) p h.1)
 
@@ -140,7 +140,7 @@ cells_inner : (xs : List Cell) → AllInner xs → All IsCell xs
 cells_inner [] h = All-nil IsCell
 cells_inner (x ∷ xs) h = All-cons IsCell x xs h.0.holds (cells_inner xs h.1)
 
-cell_start : IsCell start
+cell_start : IsCell start_cell
 cell_start = record {
   in_range = record {
     a_in = omega arith;
@@ -162,13 +162,13 @@ cell_finish = record {
   one_to_one = refl;
 }
 
-pub cells_all : (main : List Symbol) (bodies : List (List Symbol)) → AllFit main → EachFit bodies
+pub cells_all : (main : List Symbol) (bodies : List (List Symbol)) → AllSymbolsFit main → EachFit bodies
     → All IsCell (link_code main bodies)
 cells_all main bodies fit fits =
-    let rs = places (first_top main) bodies in
+    let rs = link_positions (first_top main) bodies in
     let a = linked rs 1 main in
     let b = routines_code rs (first_top main) bodies in
-    All-cons IsCell start (a ++ finish ∷ b) cell_start (cells_append a (finish ∷ b) (inner_linked rs 1 main fit)
+    All-cons IsCell start_cell (a ++ finish ∷ b) cell_start (cells_append a (finish ∷ b) (inner_linked rs 1 main fit)
     (All-cons IsCell finish b cell_finish (cells_inner b (inner_routines rs (first_top main) bodies fits))))
 
 start_by : (op : Op) → is_end_op op ≡ false → is_start_op op ≡ false
@@ -198,10 +198,10 @@ none_of p never (c ∷ xs) h =
     omega arith
 
 count_code : (p : Cell → Bool) → ((c : Cell) → is_end c ≡ false → p c ≡ false) → (a b : List Cell) → AllInner a
-    → AllInner b → count_by p (start ∷ (a ++ finish ∷ b)) ≡ count_by p (start ∷ []) + count_by p (finish ∷ [])
+    → AllInner b → count_by p (start_cell ∷ (a ++ finish ∷ b)) ≡ count_by p (start_cell ∷ []) + count_by p (finish ∷ [])
 count_code p never a b ha hb =
-    let e1 : count_by p (start ∷ (a ++ finish ∷ b)) ≡ count_by p (start ∷ []) + count_by p (a ++ finish ∷ b) =
-    sum_by-append (λ x. cond (p x) 1 0) (start ∷ []) (a ++ finish ∷ b) in
+    let e1 : count_by p (start_cell ∷ (a ++ finish ∷ b)) ≡ count_by p (start_cell ∷ []) + count_by p (a ++ finish ∷ b) =
+    sum_by-append (λ x. cond (p x) 1 0) (start_cell ∷ []) (a ++ finish ∷ b) in
     let e2 : count_by p (a ++ finish ∷ b) ≡ count_by p a + count_by p (finish ∷ b) =
     sum_by-append (λ x. cond (p x) 1 0) a (finish ∷ b) in
     let e3 : count_by p (finish ∷ b) ≡ count_by p (finish ∷ []) + count_by p b =
@@ -210,12 +210,12 @@ count_code p never a b ha hb =
     let z2 = none_of p never b hb in
     omega arith
 
-pub one_start : (main : List Symbol) (bodies : List (List Symbol)) → AllFit main → EachFit bodies
+pub one_start : (main : List Symbol) (bodies : List (List Symbol)) → AllSymbolsFit main → EachFit bodies
     → count_by is_start (link_code main bodies) ≡ 1
 one_start main bodies fit fits = count_code is_start no_start _ _ (inner_linked _ 1 main fit)
     (inner_routines _ (first_top main) bodies fits)
 
-pub one_finish : (main : List Symbol) (bodies : List (List Symbol)) → AllFit main → EachFit bodies
+pub one_finish : (main : List Symbol) (bodies : List (List Symbol)) → AllSymbolsFit main → EachFit bodies
     → count_by is_finish (link_code main bodies) ≡ 1
 one_finish main bodies fit fits = count_code is_finish no_finish _ _ (inner_linked _ 1 main fit)
     (inner_routines _ (first_top main) bodies fits)
@@ -299,8 +299,8 @@ chosen_none false x why n e = absurd (cc)
 
 trap_op : (op : Op) (why : Stop) (c : Cell) (s : State) → (Finished ≡ why → ⊥) → (Returned ≡ why → ⊥)
     → stop_in op c s ≡ Some why → is_end_op op ≡ false
-trap_op Finish why c s nf nr e = absurd (chosen_none (not s.back && is_zero s.br) Finished why nf e)
-trap_op Start why c s nf nr e = absurd (chosen_none (s.back && is_zero s.br) Returned why nr e)
+trap_op Finish why c s nf nr e = absurd (chosen_none (not s.back && is_zero_word s.br) Finished why nf e)
+trap_op Start why c s nf nr e = absurd (chosen_none (s.back && is_zero_word s.br) Returned why nr e)
 trap_op _ why c s nf nr e = refl
 
 trap_at : (o : Option Cell) (why : Stop) (s : State) → (Finished ≡ why → ⊥) → (Returned ≡ why → ⊥)
@@ -404,13 +404,13 @@ shapes_placed im n t (s ∷ ss) h (suc r) l =
     subst (λ k. Routine im k top (cells_of_shape (shape_at ss r))) e
     (shapes_placed im (n + 1) (t + 1 + 1 + 1 + length (cells_of_shape s) + 1) ss h.1 r (omega arith))
 
-shapes_made : (ss : List Shape) → AllMade ss → (r : ℕ) → r < length ss → IsMade (shape_at ss r)
+shapes_made : (ss : List Shape) → AllMade ss → (r : ℕ) → r < length ss → IsShapeMade (shape_at ss r)
 shapes_made [] h r l = absurd (omega arith)
 shapes_made (s ∷ ss) h zero l = h.0
 shapes_made (s ∷ ss) h (suc r) l = shapes_made ss h.1 r (omega arith)
 
 shapes_stand : (im : Image) (t : ℕ) (ss : List Shape) → AllMade ss → AllPlaced im 0 t (shapes_cells ss) → Tidy im
-    → Stand im (routines_of t ss)
+    → RoutinesStand im (routines_of t ss)
 shapes_stand im t ss g h tidy = record {
   made = λ r l. shapes_made ss g r l;
   placed = λ r l. let e : 0 + r ≡ r = omega arith in subst

@@ -5,8 +5,8 @@ use Rattle.std.proofs.lemmas.Int.{ints}
 use Rattle.std.proofs.lemmas.Bool.Decides.{nat_tests}
 use Rattle.std.proofs.lemmas.Bool.{cases_lt}
 use Rattle.code_conventions.specs.rpp_words.Words.{sum_of, negated}
-use Rattle.code_conventions.specs.pisa_isa.Machine.{stride, place_moved, below_zero, is_zero}
-use Rattle.paired_code.specs.Layout.{xor, spot, between}
+use Rattle.code_conventions.specs.pisa_isa.Machine.{stride, place_moved, below_zero, is_zero_word}
+use Rattle.paired_code.specs.Layout.{bool_xor, spot, between}
 
 -- a number, or its negation if the direction is back
 abbrev pub along : Bool → ℤ → ℤ
@@ -22,7 +22,7 @@ abbrev pub opposite : ℕ → ℕ
 opposite w = if nat_lt w (2 ^ 32) then negated w else w
 
 abbrev pub is_positive : ℕ → Bool
-is_positive w = not (below_zero w || is_zero w)
+is_positive w = not (below_zero w || is_zero_word w)
 
 abbrev pub is_negative : ℕ → Bool
 is_negative w = below_zero w
@@ -78,40 +78,40 @@ flipped_word false x y = refl
 flipped_word true x y = let l : between x y < 2 ^ 32 = omega arith in opposite_word (between x y) l
 
 first : (flip d : Bool) (x y : ℕ) → x ≢ y → x < 2 ^ 30 → y < 2 ^ 30
-    → sum_of 0 (turned (xor flip d) (turned flip (between x y))) ≡ toward d x y
+    → sum_of 0 (turned (bool_xor flip d) (turned flip (between x y))) ≡ toward d x y
 first false false x y n h k = omega arith
 first false true x y n h k = omega arith
 first true false x y n h k = omega arith
 first true true x y n h k = omega arith
 
 second : (flip d : Bool) (x y : ℕ) → x ≢ y → x < 2 ^ 30 → y < 2 ^ 30
-    → sum_of (toward d x y) (turned (xor flip d) (turned flip (between y x))) ≡ 0
+    → sum_of (toward d x y) (turned (bool_xor flip d) (turned flip (between y x))) ≡ 0
 second false false x y n h k = omega arith
 second false true x y n h k = omega arith
 second true false x y n h k = omega arith
 second true true x y n h k = omega arith
 
 pub first_br : (flip d : Bool) (x y : ℕ) → x ≢ y → x < 2 ^ 30 → y < 2 ^ 30
-    → sum_of 0 (turned (xor flip d) (flipped flip (between x y))) ≡ toward d x y
-first_br flip d x y n h k = ap (λ w. sum_of 0 (turned (xor flip d) w)) (flipped_word flip x y) ∙ first flip d x y n h k
+    → sum_of 0 (turned (bool_xor flip d) (flipped flip (between x y))) ≡ toward d x y
+first_br flip d x y n h k = ap (λ w. sum_of 0 (turned (bool_xor flip d) w)) (flipped_word flip x y) ∙ first flip d x y n h k
 
 pub second_br : (flip d : Bool) (x y : ℕ) → x ≢ y → x < 2 ^ 30 → y < 2 ^ 30
-    → sum_of (toward d x y) (turned (xor flip d) (flipped flip (between y x))) ≡ 0
-second_br flip d x y n h k = ap (λ w. sum_of (toward d x y) (turned (xor flip d) w)) (flipped_word flip y x)
+    → sum_of (toward d x y) (turned (bool_xor flip d) (flipped flip (between y x))) ≡ 0
+second_br flip d x y n h k = ap (λ w. sum_of (toward d x y) (turned (bool_xor flip d) w)) (flipped_word flip y x)
     ∙ second flip d x y n h k
 
 pub goes_to : (flip d : Bool) (g : ℤ) (x y : ℕ) → x ≢ y → x < 2 ^ 30 → y < 2 ^ 30
-    → spot flip false g x +ℤ along (xor flip d) (stride (toward d x y)) ≡ spot flip false g y
+    → spot flip false g x +ℤ along (bool_xor flip d) (stride (toward d x y)) ≡ spot flip false g y
 goes_to flip d g x y n h k = ⊎_elim (λ l. up flip d l) (λ l. down flip d (omega arith)) (cases_lt x y)
   where
-    up : (flip d : Bool) → x < y → spot flip false g x +ℤ along (xor flip d) (stride (toward d x y))
+    up : (flip d : Bool) → x < y → spot flip false g x +ℤ along (bool_xor flip d) (stride (toward d x y))
         ≡ spot flip false g y
     up false false l = rw (between_up x y l k, stride_up (y - x) (omega arith) (omega arith)) (omega (arith, ints))
     up false true l = rw (between_down y x l k, stride_down (y - x) (omega arith) (omega arith)) (omega (arith, ints))
     up true false l = rw (between_up x y l k, stride_up (y - x) (omega arith) (omega arith)) (omega (arith, ints))
     up true true l = rw (between_down y x l k, stride_down (y - x) (omega arith) (omega arith)) (omega (arith, ints))
 
-    down : (flip d : Bool) → y < x → spot flip false g x +ℤ along (xor flip d) (stride (toward d x y))
+    down : (flip d : Bool) → y < x → spot flip false g x +ℤ along (bool_xor flip d) (stride (toward d x y))
         ≡ spot flip false g y
     down false false l = rw (between_down x y l h, stride_down (x - y) (omega arith) (omega arith))
         (omega (arith, ints))
@@ -134,7 +134,7 @@ near_is false true g x = omega (arith, ints)
 near_is true false g x = refl
 near_is true true g x = omega (arith, ints)
 
-pub far_is : (flip d : Bool) (g : ℤ) (x : ℕ) → spot flip false g x +ℤ along (xor flip d) (pos 1)
+pub far_is : (flip d : Bool) (g : ℤ) (x : ℕ) → spot flip false g x +ℤ along (bool_xor flip d) (pos 1)
     ≡ spot flip d g (far d x)
 far_is false false g x = omega (arith, ints)
 far_is false true g x = omega (arith, ints)

@@ -5,11 +5,11 @@ use Rattle.std.specs.Prelude.{not, cond, nat_lt, position, count_by}
 use Rattle.std.specs.List.{All, position_or_len}
 use Rattle.std.proofs.lemmas.Bool.Decides.{nat_tests}
 use Rattle.code_conventions.specs.pisa_isa.declared.cell.Cell.{Cell}
-use Rattle.paired_code.specs.Cells.{start, finish}
+use Rattle.paired_code.specs.Cells.{start_cell, finish}
 use Rattle.paired_code.specs.declared.part.Symbol.{Symbol}
-use Rattle.paired_code.specs.Link.{places, linked, routine_code, routines_code, routines_size, first_top, link_code}
+use Rattle.paired_code.specs.Link.{link_positions, linked, routine_code, routines_code, routines_size, first_top, link_code}
 use Rattle.paired_code.specs.Link.{link_size, Linked}
-use Rattle.paired_code.specs.Fit.{AllFit, EachFit}
+use Rattle.paired_code.specs.Fit.{AllSymbolsFit, EachFit}
 use Rattle.paired_code.specs.Code.{Code, bodies}
 use Rattle.code_conventions.specs.pisa_isa.declared.image.TheConstants.{MOST_CELLS}
 use Rattle.code_conventions.specs.pisa_isa.declared.image.SealError.{SealError}
@@ -29,13 +29,13 @@ bodies_drop : (xs : List Code) (i : ℕ) (x : Code) → i < length xs → x ≡ 
 bodies_drop xs i x l e = let k : suc i ≡ i + 1 = omega arith in drop_suc xs i x l e
     ∙ ap (λ n. x.cells ∷ bodies (drop n xs)) k
 
-fit_suc : (xs : List Code) (i : ℕ) (x : Code) → i < length xs → x ≡ get_or xs i x → AllFit x.cells
+fit_suc : (xs : List Code) (i : ℕ) (x : Code) → i < length xs → x ≡ get_or xs i x → AllSymbolsFit x.cells
     → EachFit (bodies (take i xs)) → EachFit (bodies (take (suc i) xs))
 fit_suc [] i x l e h k = absurd (omega arith)
-fit_suc (y ∷ ys) zero x l e h k = (subst (λ (z : Code). AllFit z.cells) e h, tt)
+fit_suc (y ∷ ys) zero x l e h k = (subst (λ (z : Code). AllSymbolsFit z.cells) e h, tt)
 fit_suc (y ∷ ys) (suc i) x l e h k = (k.0, fit_suc ys i x (omega arith) e h k.1)
 
-pub fit_take : (xs : List Code) (i : ℕ) (x : Code) → i < length xs → x ≡ get_or xs i x → AllFit x.cells
+pub fit_take : (xs : List Code) (i : ℕ) (x : Code) → i < length xs → x ≡ get_or xs i x → AllSymbolsFit x.cells
     → EachFit (bodies (take i xs)) → EachFit (bodies (take (i + 1) xs))
 fit_take xs i x l e h k = let q : suc i ≡ i + 1 = omega arith in
     subst (λ n. EachFit (bodies (take n xs))) q (fit_suc xs i x l e h k)
@@ -64,14 +64,14 @@ pub pushed : (old new : List Cell) (x y : Cell) → x ≡ y → new ≡ old ++ x
 pushed old new x y e h = h ∙ ap (λ (z : Cell). old ++ z ∷ []) e
 
 pub head_built : (rs : List ℕ) (main cells : List Symbol) (c0 c1 c2 c3 : List Cell) → cells ≡ main → c0 ≡ []
-    → c1 ≡ c0 ++ start ∷ [] → c2 ≡ c1 ++ linked rs (length c1) cells → c3 ≡ c2 ++ finish ∷ []
-    → c3 ≡ (start ∷ linked rs 1 main) ++ finish ∷ []
+    → c1 ≡ c0 ++ start_cell ∷ [] → c2 ≡ c1 ++ linked rs (length c1) cells → c3 ≡ c2 ++ finish ∷ []
+    → c3 ≡ (start_cell ∷ linked rs 1 main) ++ finish ∷ []
 head_built rs main cells c0 c1 c2 c3 e e0 e1 e2 e3 =
-    let k1 : c1 ≡ start ∷ [] = e1 ∙ ap (λ z. z ++ start ∷ []) e0 in
+    let k1 : c1 ≡ start_cell ∷ [] = e1 ∙ ap (λ z. z ++ start_cell ∷ []) e0 in
     e3 ∙ ap (λ z. z ++ finish ∷ []) (e2 ∙ ap (λ z. z ++ linked rs (length z) cells) k1
-    ∙ ap (λ z. start ∷ linked rs 1 z) e)
+    ∙ ap (λ z. start_cell ∷ linked rs 1 z) e)
 
-pub head_length : (rs : List ℕ) (main : List Symbol) (c : List Cell) → c ≡ (start ∷ linked rs 1 main) ++ finish ∷ []
+pub head_length : (rs : List ℕ) (main : List Symbol) (c : List Cell) → c ≡ (start_cell ∷ linked rs 1 main) ++ finish ∷ []
     → length c ≡ 1 + length main + 1
 head_length rs main c e = ap length e ∙ omega (
   arith,
@@ -80,29 +80,29 @@ head_length rs main c e = ap length e ∙ omega (
 )
 
 pub link_built : (main cells : List Symbol) (bs bs1 bs2 : List (List Symbol)) (rs rs1 rs2 : List ℕ) (n : ℕ)
-    (c0 c1 c2 c3 c4 : List Cell) → cells ≡ main → n ≡ length cells → bs1 ≡ bs → bs2 ≡ bs → rs ≡ places (1 + n + 1) bs1
-    → rs1 ≡ rs → rs2 ≡ rs → c0 ≡ [] → c1 ≡ c0 ++ start ∷ [] → c2 ≡ c1 ++ linked rs1 (length c1) cells
+    (c0 c1 c2 c3 c4 : List Cell) → cells ≡ main → n ≡ length cells → bs1 ≡ bs → bs2 ≡ bs → rs ≡ link_positions (1 + n + 1) bs1
+    → rs1 ≡ rs → rs2 ≡ rs → c0 ≡ [] → c1 ≡ c0 ++ start_cell ∷ [] → c2 ≡ c1 ++ linked rs1 (length c1) cells
     → c3 ≡ c2 ++ finish ∷ [] → c4 ≡ c3 ++ routines_code rs2 (length c3) bs2 → c4 ≡ link_code main bs
 link_built main cells bs bs1 bs2 rs rs1 rs2 n c0 c1 c2 c3 c4 ec en eb1 eb2 er e1 e2 k0 k1 k2 k3 k4 =
-    let r = places (first_top main) bs in
-    let r0 : rs ≡ r = er ∙ ap (λ z. places (1 + n + 1) z) eb1 ∙ ap (λ z. places (1 + z + 1) bs) (en ∙ ap length ec) in
+    let r = link_positions (first_top main) bs in
+    let r0 : rs ≡ r = er ∙ ap (λ z. link_positions (1 + n + 1) z) eb1 ∙ ap (λ z. link_positions (1 + z + 1) bs) (en ∙ ap length ec) in
     let h = head_built rs1 main cells c0 c1 c2 c3 ec k0 k1 k2 k3 in
     let len = head_length rs1 main c3 h in
-    let h' : c3 ≡ (start ∷ linked r 1 main) ++ finish ∷ [] = h
-    ∙ ap (λ z. (start ∷ linked z 1 main) ++ finish ∷ []) (e1 ∙ r0) in
+    let h' : c3 ≡ (start_cell ∷ linked r 1 main) ++ finish ∷ [] = h
+    ∙ ap (λ z. (start_cell ∷ linked z 1 main) ++ finish ∷ []) (e1 ∙ r0) in
     let tail : routines_code rs2 (length c3) bs2 ≡ routines_code r (first_top main) bs =
     ap (λ z. routines_code z (length c3) bs2) (e2 ∙ r0) ∙ ap (λ z. routines_code r z bs2) len
     ∙ ap (routines_code r (first_top main)) eb2 in
     k4 ∙ ap (λ z. z ++ routines_code rs2 (length c3) bs2) h'
-    ∙ ap (λ z. ((start ∷ linked r 1 main) ++ finish ∷ []) ++ z) tail
-    ∙ append_assoc (start ∷ linked r 1 main) (finish ∷ []) (routines_code r (first_top main) bs)
+    ∙ ap (λ z. ((start_cell ∷ linked r 1 main) ++ finish ∷ []) ++ z) tail
+    ∙ append_assoc (start_cell ∷ linked r 1 main) (finish ∷ []) (routines_code r (first_top main) bs)
 
 pub law_built : (main : List Symbol) (bs : List (List Symbol)) (code : List Cell) → link_size main bs ≤ MOST_CELLS
-    → code ≡ link_code main bs → Linked main bs (record { code = code; routines = places (first_top main) bs })
-law_built main bs code s e = subst (λ z. Linked main bs (record { code = z; routines = places (first_top main) bs }))
+    → code ≡ link_code main bs → Linked main bs (record { code = code; routines = link_positions (first_top main) bs })
+law_built main bs code s e = subst (λ z. Linked main bs (record { code = z; routines = link_positions (first_top main) bs }))
     (sym e) (linked_law main bs (omega arith))
 
-pub in_range : (main : List Symbol) (bs : List (List Symbol)) (code : List Cell) → AllFit main → EachFit bs
+pub in_range : (main : List Symbol) (bs : List (List Symbol)) (code : List Cell) → AllSymbolsFit main → EachFit bs
     → code ≡ link_code main bs → All IsInRange code
 in_range main bs code h k e = subst (All IsInRange) (sym e) (λ i d l. (cells_all main bs h k i d l).in_range)
 
@@ -121,7 +121,7 @@ past k n e = let l : nat_lt k n ≡ false = grind (arith, nat_tests) in ap (λ t
 none_refused : (xs : List Cell) → All IsCell xs → position (λ c. not (is_one_to_one c)) xs ≡ None
 none_refused xs h = past (position_or_len (λ c. not (is_one_to_one c)) xs) (length xs) (none_fails xs h)
 
-pub accepted : (main : List Symbol) (bs : List (List Symbol)) (code : List Cell) → AllFit main → EachFit bs
+pub accepted : (main : List Symbol) (bs : List (List Symbol)) (code : List Cell) → AllSymbolsFit main → EachFit bs
     → code ≡ link_code main bs → first_seal_refusal code ≡ None
 accepted main bs code h k e =
     ap first_seal_refusal e

@@ -23,8 +23,8 @@ beq d s o = record { op = Beq; a = d; b = s; c = 0; imm = o }
 abbrev pub bne : ℕ → ℕ → ℕ → Cell
 bne d s o = record { op = Bne; a = d; b = s; c = 0; imm = o }
 
-abbrev pub start : Cell
-start = with_word Start 0 0
+abbrev pub start_cell : Cell
+start_cell = with_word Start 0 0
 
 abbrev pub finish : Cell
 finish = with_word Finish 0 0

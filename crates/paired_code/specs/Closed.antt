@@ -8,14 +8,14 @@ use Rattle.paired_code.specs.declared.part.Symbol.{Symbol}
 use Rattle.paired_code.specs.declared.part.Symbol.TheVariants.{Own, Enter}
 use Rattle.code_conventions.specs.pisa_isa.Machine.{State, Memory}
 use Rattle.code_conventions.specs.pisa_isa.declared.machine.Stop.TheVariants.{Trap, BadAddress}
-use Rattle.paired_code.specs.Machine.{Image, reg, with_reg, is_single}
-use Rattle.paired_code.specs.Layout.{xor, at, code_line, mirror_cells, branch_cells, loop_cells}
+use Rattle.paired_code.specs.Machine.{Image, memory_reg, memory_with_reg, is_single}
+use Rattle.paired_code.specs.Layout.{bool_xor, at, code_line, mirror_cells, branch_cells, loop_cells}
 use Rattle.paired_code.specs.Layout.{check_cells, Test, test_cells, place_register, enter_at_cells}
 use Rattle.paired_code.specs.Layout.{Routine, Tidy}
-use Rattle.paired_code.specs.Pieces.{Outcome, Done, Trapped, Bad, Still, after, around, around_no}
+use Rattle.paired_code.specs.Pieces.{Outcome, Done, Trapped, Bad, Still, outcome_after, outcome_around, around_no}
 use Rattle.paired_code.specs.Pieces.{to_tail, to_head, near_end, far_end}
-use Rattle.paired_code.specs.Laws.{outcome_of, Passes, Fails, lead, left_in}
-use Rattle.paired_code.specs.Literal.{Comes, Stops, Stays}
+use Rattle.paired_code.specs.Laws.{outcome_of, TestPasses, TestFails, lead, left_in}
+use Rattle.paired_code.specs.Literal.{Comes, LiteralStops, LiteralStays}
 
 -- how the calls made a fragment
 pub data Shape : Type 0 where
@@ -43,23 +43,23 @@ cells_of_shape (Call r b) = Enter r b ∷ []
 cells_of_shape (Call_at a b) = enter_at_cells (place_register a) b
 
 -- each instruction in it is single, and an image may hold it
-abbrev pub IsMade : Shape → Type 0
-IsMade (One c) = (is_single c ≡ true) × IsCell c
-IsMade (Then p q) = IsMade p × IsMade q
-IsMade (Turned p) = IsMade p
-IsMade (Choose r p q) = IsMade p × IsMade q
-IsMade (Loop r p q) = IsMade p × IsMade q
-IsMade _ = Unit {0}
+abbrev pub IsShapeMade : Shape → Type 0
+IsShapeMade (One c) = (is_single c ≡ true) × IsCell c
+IsShapeMade (Then p q) = IsShapeMade p × IsShapeMade q
+IsShapeMade (Turned p) = IsShapeMade p
+IsShapeMade (Choose r p q) = IsShapeMade p × IsShapeMade q
+IsShapeMade (Loop r p q) = IsShapeMade p × IsShapeMade q
+IsShapeMade _ = Unit {0}
 
 abbrev pub AllMade : List Shape → Type 0
 AllMade [] = Unit {0}
-AllMade (s ∷ ss) = IsMade s × AllMade ss
+AllMade (s ∷ ss) = IsShapeMade s × AllMade ss
 
 -- cells that the calls make
 pub record HasShape (cells : List Symbol) : Type 0 where
   pub shape : Shape
   pub is : cells_of_shape shape ≡ cells
-  pub made : IsMade shape
+  pub made : IsShapeMade shape
 
 -- the routines of an image: how many, where each begins, and its body
 pub record Routines : Type 0 where
@@ -68,9 +68,9 @@ pub record Routines : Type 0 where
   pub body : ℕ → Shape
 
 -- they are in the image
-pub record Stand (im : Image) (rs : Routines) : Type 0 where
+pub record RoutinesStand (im : Image) (rs : Routines) : Type 0 where
   pub placed : (r : ℕ) → r < rs.count → Routine im r (rs.top r) (cells_of_shape (rs.body r))
-  pub made : (r : ℕ) → r < rs.count → IsMade (rs.body r)
+  pub made : (r : ℕ) → r < rs.count → IsShapeMade (rs.body r)
   pub tidy : Tidy im
 
 -- what is to hold for a run, if the next one is to come
@@ -89,14 +89,14 @@ Left P (Still k) = Unit {0}
 
 -- after a routine's body: LINK as it was found
 abbrev pub Back : ℕ → Bool → (Outcome → Type 0) → Outcome → Type 0
-Back w d Q (Done m k) = (reg m LINK ≡ w) × Q (Done (with_reg m LINK 0) (k + 7))
+Back w d Q (Done m k) = (memory_reg m LINK ≡ w) × Q (Done (memory_with_reg m LINK 0) (k + 7))
 Back w d Q (Trapped v k) = Q (Trapped v (lead d + k))
 Back w d Q (Bad v k) = Q (Bad v (lead d + k))
 Back w d Q (Still k) = Q (Still (lead d + k))
 
 abbrev pub Back_at : ℕ → ℕ → ℕ → Bool → (Outcome → Type 0) → Outcome → Type 0
-Back_at a s w d Q (Done m k) = (reg m LINK ≡ w)
-    × ((e : ℕ) → 6 ≤ e → e ≤ 15 → Q (Done (with_reg m LINK (left_in d (reg m a) s)) (k + e)))
+Back_at a s w d Q (Done m k) = (memory_reg m LINK ≡ w)
+    × ((e : ℕ) → 6 ≤ e → e ≤ 15 → Q (Done (memory_with_reg m LINK (left_in d (memory_reg m a) s)) (k + e)))
 Back_at a s w d Q (Trapped v k) = (e : ℕ) → 6 ≤ e → e ≤ 15 → Q (Trapped v (k + e))
 Back_at a s w d Q (Bad v k) = (e : ℕ) → 6 ≤ e → e ≤ 15 → Q (Bad v (k + e))
 Back_at a s w d Q (Still k) = (e : ℕ) → 6 ≤ e → e ≤ 15 → Q (Still (k + e))
@@ -108,11 +108,11 @@ abbrev pub rounds_fine : ℕ → (Bool → Memory → (Outcome → Type 0) → T
 rounds_fine r head tail zero d m Q = Q (Still 0)
 rounds_fine r head tail (suc j) d m Q =
     head d m (And_next (λ m1 k.
-    ((reg m1 r ≢ 0) × Q (Done m1 (k + 3)))
-    ⊎ ((reg m1 r ≡ 0) × tail d m1
-    (And_next (λ m2 k2. (reg m2 r ≡ 0)
-    × rounds_fine r head tail j d m2 (λ o. Q (after (k + to_tail d + (k2 + to_head d)) o)))
-    (λ o. Q (after (k + to_tail d) o))))) Q)
+    ((memory_reg m1 r ≢ 0) × Q (Done m1 (k + 3)))
+    ⊎ ((memory_reg m1 r ≡ 0) × tail d m1
+    (And_next (λ m2 k2. (memory_reg m2 r ≡ 0)
+    × rounds_fine r head tail j d m2 (λ o. Q (outcome_after (k + to_tail d + (k2 + to_head d)) o)))
+    (λ o. Q (outcome_after (k + to_tail d) o))))) Q)
 
 -- the conditions on a run, with n rounds or calls, one in the other; Q is to hold for its outcome
 abbrev pub fine_with : Routines → ℕ → (Shape → Bool → Memory → (Outcome → Type 0) → Type 0) → Shape
@@ -121,31 +121,31 @@ fine_with rs n calls Nothing d m Q = Q (Done m 0)
 fine_with rs n calls (One c) d m Q = Q (outcome_of d c m)
 fine_with rs n calls (Then p q) false m Q =
     fine_with rs n calls p false m
-    (And_next (λ m1 k. fine_with rs n calls q false m1 (λ o. Q (after k o))) Q)
+    (And_next (λ m1 k. fine_with rs n calls q false m1 (λ o. Q (outcome_after k o))) Q)
 fine_with rs n calls (Then p q) true m Q =
     fine_with rs n calls q true m
-    (And_next (λ m1 k. fine_with rs n calls p true m1 (λ o. Q (after k o))) Q)
+    (And_next (λ m1 k. fine_with rs n calls p true m1 (λ o. Q (outcome_after k o))) Q)
 fine_with rs n calls (Turned p) d m Q = fine_with rs n calls p (not d) m Q
 fine_with rs n calls (Choose r p q) d m Q =
-    ((reg m r ≢ 0) × fine_with rs n calls p d m (λ o. Left (λ m1. reg m1 r ≢ 0) o
-    × Q (around 3 3 o)))
-    ⊎ ((reg m r ≡ 0) × fine_with rs n calls q d m
-    (λ o. Left (λ m1. reg m1 r ≡ 0) o × Q (around_no d o)))
+    ((memory_reg m r ≢ 0) × fine_with rs n calls p d m (λ o. Left (λ m1. memory_reg m1 r ≢ 0) o
+    × Q (outcome_around 3 3 o)))
+    ⊎ ((memory_reg m r ≡ 0) × fine_with rs n calls q d m
+    (λ o. Left (λ m1. memory_reg m1 r ≡ 0) o × Q (around_no d o)))
 fine_with rs n calls (Loop r p q) d m Q =
-    (reg m r ≢ 0) × rounds_fine r (fine_with rs n calls p) (fine_with rs n calls q) n d m
-    (λ o. Q (after 3 o))
+    (memory_reg m r ≢ 0) × rounds_fine r (fine_with rs n calls p) (fine_with rs n calls q) n d m
+    (λ o. Q (outcome_after 3 o))
 fine_with rs n calls (Check r code) d m Q =
-    ((reg m r ≡ 0) × Q (Done m 4)) ⊎ ((reg m r ≢ 0) × ((k : ℕ) → k ≤ 4 → Q (Trapped code k)))
+    ((memory_reg m r ≡ 0) × Q (Done m 4)) ⊎ ((memory_reg m r ≢ 0) × ((k : ℕ) → k ≤ 4 → Q (Trapped code k)))
 fine_with rs n calls (Try t code) d m Q =
-    (Passes t m × Q (Done m 2)) ⊎ (Fails t m × Q (Trapped code 1))
+    (TestPasses t m × Q (Done m 2)) ⊎ (TestFails t m × Q (Trapped code 1))
 fine_with rs n calls (Call r b) d m Q =
-    (r < rs.count) × (LINK < length m.regs) × (reg m LINK ≡ 0)
+    (r < rs.count) × (LINK < length m.regs) × (memory_reg m LINK ≡ 0)
     × ((w : ℕ) → 0 < w → w < 2 ^ 32
-    → calls (rs.body r) (xor b d) (with_reg m LINK w) (Back w (xor b d) Q))
+    → calls (rs.body r) (bool_xor b d) (memory_with_reg m LINK w) (Back w (bool_xor b d) Q))
 fine_with rs n calls (Call_at a b) d m Q =
-    (r : ℕ) × (r < rs.count) × (LINK < length m.regs) × (reg m LINK ≡ 0) × (reg m a ≡ rs.top r + 1)
+    (r : ℕ) × (r < rs.count) × (LINK < length m.regs) × (memory_reg m LINK ≡ 0) × (memory_reg m a ≡ rs.top r + 1)
     × ((w : ℕ) → 0 < w → w < 2 ^ 32
-    → calls (rs.body r) (xor b d) (with_reg m LINK w) (Back_at a (rs.top r + 1) w (xor b d) Q))
+    → calls (rs.body r) (bool_xor b d) (memory_with_reg m LINK w) (Back_at a (rs.top r + 1) w (bool_xor b d) Q))
 
 abbrev pub fine : Routines → ℕ → Shape → Bool → Memory → (Outcome → Type 0) → Type 0
 fine rs zero s d m Q = Q (Still 0)
@@ -158,9 +158,9 @@ any o = Unit {0}
 -- steps
 pub data One_of_four (im : Image) (far : ℤ) (d : Bool) (n : ℕ) (s : State) : Type 0 where
   leaves : (m' : Memory) (k : ℕ) → Comes im far d k 0 s m' → One_of_four im far d n s
-  traps : (w k : ℕ) → Stops im far d (Trap w) k 0 s → One_of_four im far d n s
-  stops : (a k : ℕ) → Stops im far d (BadAddress a) k 0 s → One_of_four im far d n s
-  stays : Stays im far d n 0 s → One_of_four im far d n s
+  traps : (w k : ℕ) → LiteralStops im far d (Trap w) k 0 s → One_of_four im far d n s
+  stops : (a k : ℕ) → LiteralStops im far d (BadAddress a) k 0 s → One_of_four im far d n s
+  stays : LiteralStays im far d n 0 s → One_of_four im far d n s
 
 -- so a fragment of this shape from cell a on does one of the four, if its run meets the conditions
 abbrev pub Closed : Image → Shape → ℕ → Bool → Memory → ℕ → Type 0

@@ -4,7 +4,7 @@ use Rattle.paired_code.specs.declared.part.Symbol.{Symbol}
 use Rattle.code_conventions.specs.pisa_isa.declared.notes.TheConstants.{LAST_PLACE}
 use Rattle.code_conventions.specs.pisa_isa.declared.notes.Mark.{Mark}
 use Rattle.paired_code.specs.Layout.{branch_cells, loop_cells}
-use Rattle.paired_code.specs.Fit.{AllFit}
+use Rattle.paired_code.specs.Fit.{AllSymbolsFit}
 
 pub record Code : Type 0 where
   pub cells : List Symbol
@@ -16,8 +16,8 @@ AllWithin n [] = Unit {0}
 AllWithin n (k ∷ ks) = (k.first ≤ k.end) × ((k.end ≤ n) × (k.at ≤ LAST_PLACE)) × AllWithin n ks
 
 -- what each fragment keeps: cells each of which an image may hold, and marks on them
-pub record Kept (cells : List Symbol) (marks : List Mark) : Type 0 where
-  pub fit : AllFit cells
+pub record KeptCode (cells : List Symbol) (marks : List Mark) : Type 0 where
+  pub fit : AllSymbolsFit cells
   pub within : AllWithin (length cells) marks
 
 abbrev pub moved_on : ℕ → Mark → Mark

@@ -16,11 +16,11 @@ IsFit (Own c) = IsInner c
 IsFit (Fixed c) = IsInner c
 IsFit _ = Unit {0}
 
-abbrev pub AllFit : List Symbol → Type 0
-AllFit [] = Unit {0}
-AllFit (c ∷ p) = IsFit c × AllFit p
+abbrev pub AllSymbolsFit : List Symbol → Type 0
+AllSymbolsFit [] = Unit {0}
+AllSymbolsFit (c ∷ p) = IsFit c × AllSymbolsFit p
 
 -- so have the cells of each
 abbrev pub EachFit : List (List Symbol) → Type 0
 EachFit [] = Unit {0}
-EachFit (b ∷ bs) = AllFit b × EachFit bs
+EachFit (b ∷ bs) = AllSymbolsFit b × EachFit bs

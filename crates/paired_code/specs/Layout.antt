@@ -12,9 +12,9 @@ use Rattle.code_conventions.specs.rpp_words.Words.{negated}
 use Rattle.code_conventions.specs.pisa_isa.Machine.{State, fetch, Memory}
 use Rattle.paired_code.specs.Machine.{state, Image, is_routine, reversed}
 
-abbrev pub xor : Bool → Bool → Bool
-xor false b = b
-xor true b = not b
+abbrev pub bool_xor : Bool → Bool → Bool
+bool_xor false b = b
+bool_xor true b = not b
 
 -- A line of places: cell i is at base + i, or at base - i - 1 if the line is flipped.
 pub record Frame : Type 0 where
@@ -28,12 +28,12 @@ spot false true g i = (g +ℤ pos i) -ℤ pos 1
 spot true false g i = (g -ℤ pos i) -ℤ pos 1
 spot true true g i = g -ℤ pos i
 
-abbrev pub place : Frame → ℕ → ℤ
-place f i = spot f.flip false f.base i
+abbrev pub frame_address : Frame → ℕ → ℤ
+frame_address f i = spot f.flip false f.base i
 
 -- the state at the gap before cell i, about to go along the line or back
 abbrev pub at : Frame → Bool → ℕ → Memory → State
-at f d i m = state (spot f.flip d f.base i) 0 (xor f.flip d) m
+at f d i m = state (spot f.flip d f.base i) 0 (bool_xor f.flip d) m
 
 -- the offset from cell i to cell j
 abbrev pub between : ℕ → ℕ → ℕ
@@ -81,7 +81,7 @@ resolved im true p c = base im.routines p (inverse_sym c)
 -- these cells are along the line from cell i on
 abbrev pub Stands : Image → Frame → ℕ → List Symbol → Type 0
 Stands im f i [] = Unit {0}
-Stands im f i (c ∷ p) = (fetch im.code (place f i) ≡ Some (resolved im f.flip (place f i) c))
+Stands im f i (c ∷ p) = (fetch im.code (frame_address f i) ≡ Some (resolved im f.flip (frame_address f i) c))
     × Stands im f (i + 1) p
 
 abbrev pub mirror_cells : List Symbol → List Symbol
@@ -160,12 +160,12 @@ code_line = record { flip = false; base = pos 0 }
 pub record Routine (im : Image) (r top : ℕ) (body : List Symbol) : Type 0 where
   pub listed : slice_index im.routines r ≡ top + 1
   pub known : is_routine im.routines (pos (top + 1)) ≡ true
-  pub top_cell : fetch im.code (place code_line top)
+  pub top_cell : fetch im.code (frame_address code_line top)
       ≡ Some (bra (between top (top + 1 + 1 + 1 + length body)))
-  pub sub_cell : fetch im.code (place code_line (top + 1)) ≡ Some (swapbr LINK)
-  pub neg_cell : fetch im.code (place code_line (top + 1 + 1)) ≡ Some (neg LINK)
+  pub sub_cell : fetch im.code (frame_address code_line (top + 1)) ≡ Some (swapbr LINK)
+  pub neg_cell : fetch im.code (frame_address code_line (top + 1 + 1)) ≡ Some (neg LINK)
   pub body_there : Stands im code_line (top + 1 + 1 + 1) body
-  pub bot_cell : fetch im.code (place code_line (top + 1 + 1 + 1 + length body))
+  pub bot_cell : fetch im.code (frame_address code_line (top + 1 + 1 + 1 + length body))
       ≡ Some (bra (between (top + 1 + 1 + 1 + length body) top))
   pub small : top + 1 + 1 + 1 + length body < 2 ^ 30
 

@@ -9,23 +9,23 @@ use Rattle.code_conventions.specs.pisa_isa.Runs.{run, steps, started}
 use Rattle.code_conventions.specs.pisa_isa.Ends.{MeetsEndsOnce}
 use Rattle.code_conventions.specs.Cells.{neg, bra}
 use Rattle.code_conventions.specs.declared.registers.TheConstants.{LINK}
-use Rattle.paired_code.specs.Cells.{swapbr, start, finish}
+use Rattle.paired_code.specs.Cells.{swapbr, start_cell, finish}
 use Rattle.paired_code.specs.declared.part.Symbol.{Symbol}
 use Rattle.paired_code.specs.declared.part.StaticWord.{StaticWord}
 use Rattle.paired_code.specs.declared.part.StaticWord.TheVariants.{Word, Routine as RoutinePlace}
 use Rattle.paired_code.specs.Machine.{state, Image}
 use Rattle.paired_code.specs.Layout.{base, between, code_line, Stands, Routine, Tidy}
 use Rattle.paired_code.specs.Literal.{InWords}
-use Rattle.paired_code.specs.Closed.{Shape, IsMade, AllMade, cells_of_shape, shapes_cells}
+use Rattle.paired_code.specs.Closed.{Shape, IsShapeMade, AllMade, cells_of_shape, shapes_cells}
 use Rattle.paired_code.specs.Closed.{routines_of, fine, any, Closed}
 use Rattle.paired_code.specs.Pieces.{Outcome, Done, Trapped, Bad, Still, Ends}
 
 -- ---- the code
 
 -- the places of the routines, of which the first has its top at t
-abbrev pub places : ℕ → List (List Symbol) → List ℕ
-places t [] = []
-places t (b ∷ bs) = (t + 1) ∷ places (t + 1 + 1 + 1 + length b + 1) bs
+abbrev pub link_positions : ℕ → List (List Symbol) → List ℕ
+link_positions t [] = []
+link_positions t (b ∷ bs) = (t + 1) ∷ link_positions (t + 1 + 1 + 1 + length b + 1) bs
 
 -- a fragment's cells from place a on
 abbrev pub linked : List ℕ → ℕ → List Symbol → List Cell
@@ -50,12 +50,12 @@ first_top main = 1 + length main + 1
 -- START, main, FINISH and the routines
 abbrev pub link_code : List Symbol → List (List Symbol) → List Cell
 link_code main bodies =
-    start ∷ (linked (places (first_top main) bodies) 1 main ++ finish
-    ∷ routines_code (places (first_top main) bodies) (first_top main) bodies)
+    start_cell ∷ (linked (link_positions (first_top main) bodies) 1 main ++ finish
+    ∷ routines_code (link_positions (first_top main) bodies) (first_top main) bodies)
 
 abbrev pub link_image : List Symbol → List (List Symbol) → Image
 link_image main bodies =
-    record { code = link_code main bodies; routines = places (first_top main) bodies }
+    record { code = link_code main bodies; routines = link_positions (first_top main) bodies }
 
 -- how many cells that are
 abbrev pub routines_size : List (List Symbol) → ℕ
@@ -67,8 +67,8 @@ link_size main bodies = length main + 2 + routines_size bodies
 
 -- a static word, if the routines have these places
 abbrev pub static_word : List ℕ → StaticWord → ℕ
-static_word places (Word w) = w
-static_word places (RoutinePlace r) = slice_index places r
+static_word link_positions (Word w) = w
+static_word link_positions (RoutinePlace r) = slice_index link_positions r
 
 -- ---- what is in it
 
@@ -113,6 +113,6 @@ pub record Linked (main : List Symbol) (bodies : List (List Symbol)) (im : Image
       → Ends im code_line false 1 (1 + length main) 1 m (1 + length main) o
       → Whole im.code (1 + length main) m o
   pub closed : (shapes : List Shape) → shapes_cells shapes ≡ bodies → AllMade shapes
-      → (s : Shape) → IsMade s → (a : ℕ) (d : Bool) (m : Memory) (n : ℕ)
+      → (s : Shape) → IsShapeMade s → (a : ℕ) (d : Bool) (m : Memory) (n : ℕ)
       → Stands im code_line a (cells_of_shape s) → a + length (cells_of_shape s) < 2 ^ 30
       → fine (routines_of (first_top main) shapes) n s d m any → Closed im s a d m n

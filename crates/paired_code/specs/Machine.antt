@@ -6,13 +6,13 @@ use Rattle.code_conventions.specs.pisa_isa.declared.cell.Op.TheVariants.{Swapbr,
 use Rattle.code_conventions.specs.pisa_isa.declared.cell.Op.TheVariants.{Blez, Bltz, Start, Finish, DataWord}
 use Rattle.code_conventions.specs.pisa_isa.declared.cell.Cell.{Cell}
 use Rattle.code_conventions.specs.pisa_isa.Table.{inverse_op, inverse_word}
-use Rattle.code_conventions.specs.pisa_isa.Machine.{State, row_of, faced, effect, moved, is_zero, Memory, memory_of}
+use Rattle.code_conventions.specs.pisa_isa.Machine.{State, row_of, faced, effect, moved, is_zero_word, Memory, memory_of}
 
-abbrev pub reg : Memory → ℕ → ℕ
-reg m d = slice_index m.regs d
+abbrev pub memory_reg : Memory → ℕ → ℕ
+memory_reg m d = slice_index m.regs d
 
-abbrev pub with_reg : Memory → ℕ → ℕ → Memory
-with_reg m d w = record m { regs = slice_set m.regs d w }
+abbrev pub memory_with_reg : Memory → ℕ → ℕ → Memory
+memory_with_reg m d w = record m { regs = slice_set m.regs d w }
 
 -- the state at a place with this branch register and direction
 abbrev pub state : ℤ → ℕ → Bool → Memory → State
@@ -85,7 +85,7 @@ pub data Change : Type 0 where
 -- a routine is entered if its SWAPBR leaves the branch register 0, and else left
 abbrev pub swap_change : List ℕ → ℕ → State → Change
 swap_change rs d s = if is_routine rs s.pc
-    then (if is_zero (slice_index s.regs d) then Enters else Leaves) else Same
+    then (if is_zero_word (slice_index s.regs d) then Enters else Leaves) else Same
 
 abbrev pub change_by : Op → List ℕ → ℕ → State → Change
 change_by Swapbr rs d s = swap_change rs d s

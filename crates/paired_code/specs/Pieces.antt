@@ -7,11 +7,11 @@ use Rattle.code_conventions.specs.pisa_isa.Machine.{State, fetch, stop_at, stop,
 use Rattle.code_conventions.specs.pisa_isa.declared.machine.Stop.{Stop}
 use Rattle.code_conventions.specs.pisa_isa.declared.machine.Stop.TheVariants.{Trap, BadAddress}
 use Rattle.paired_code.specs.Machine.{Image, act, change, is_end, Level}
-use Rattle.paired_code.specs.Layout.{Frame, place, at, Stands}
+use Rattle.paired_code.specs.Layout.{Frame, frame_address, at, Stands}
 
 -- the place is that of a cell from a to b, or a routine is open, or a jump is under way
 pub data Inside (f : Frame) (a b : ℕ) : ℕ → ℤ → ℕ → Type 0 where
-  cell : {e br : ℕ} (i : ℕ) → a ≤ i → i < b → Inside f a b e (place f i) br
+  cell : {e br : ℕ} (i : ℕ) → a ≤ i → i < b → Inside f a b e (frame_address f i) br
   open_call : {e br : ℕ} {p : ℤ} → Inside f a b (suc e) p br
   in_flight : {e br : ℕ} {p : ℤ} → 0 < br → Inside f a b e p br
 
@@ -80,29 +80,29 @@ pub record Will (im : Image) (p : List Symbol) (d : Bool) (m : Memory)
       × Q o
 
 -- the steps of an outcome, and more before or after
-abbrev pub after : ℕ → Outcome → Outcome
-after n (Done m k) = Done m (n + k)
-after n (Trapped w k) = Trapped w (n + k)
-after n (Bad w k) = Bad w (n + k)
-after n (Still k) = Still (n + k)
+abbrev pub outcome_after : ℕ → Outcome → Outcome
+outcome_after n (Done m k) = Done m (n + k)
+outcome_after n (Trapped w k) = Trapped w (n + k)
+outcome_after n (Bad w k) = Bad w (n + k)
+outcome_after n (Still k) = Still (n + k)
 
 -- one run and, where it leaves, the next
 abbrev pub then_do : Outcome → (Memory → Outcome) → Outcome
-then_do (Done m k) g = after k (g m)
+then_do (Done m k) g = outcome_after k (g m)
 then_do (Trapped w k) g = Trapped w k
 then_do (Bad w k) g = Bad w k
 then_do (Still k) g = Still k
 
 -- so many steps before, and so many after where it leaves
-abbrev pub around : ℕ → ℕ → Outcome → Outcome
-around x y o = after x (then_do o (λ m. Done m y))
+abbrev pub outcome_around : ℕ → ℕ → Outcome → Outcome
+outcome_around x y o = outcome_after x (then_do o (λ m. Done m y))
 
 -- a run that does not leave
-abbrev pub IsOver : Outcome → Type 0
-IsOver (Done m k) = ⊥
-IsOver (Trapped w k) = Unit {0}
-IsOver (Bad w k) = Unit {0}
-IsOver (Still k) = Unit {0}
+abbrev pub IsOutcomeOver : Outcome → Type 0
+IsOutcomeOver (Done m k) = ⊥
+IsOutcomeOver (Trapped w k) = Unit {0}
+IsOutcomeOver (Bad w k) = Unit {0}
+IsOutcomeOver (Still k) = Unit {0}
 
 -- the steps between head and tail, and between tail and head
 abbrev pub to_tail : Bool → ℕ
@@ -115,5 +115,5 @@ to_head true = 4
 
 -- how many steps come before and after the part that is run if the register is 0
 abbrev pub around_no : Bool → Outcome → Outcome
-around_no false o = around 2 4 o
-around_no true o = around 4 2 o
+around_no false o = outcome_around 2 4 o
+around_no true o = outcome_around 4 2 o

@@ -11,5 +11,5 @@ line [] = []
 line (c ∷ cs) = Own c ∷ line cs
 
 -- a row, a fragment, and the row run the other way
-abbrev pub within : List Cell → List Symbol → List Symbol
-within row piece = line row ++ (piece ++ mirror_cells (line row))
+abbrev pub within_symbols : List Cell → List Symbol → List Symbol
+within_symbols row piece = line row ++ (piece ++ mirror_cells (line row))

@@ -3,5 +3,5 @@ use Rattle.std.specs.Prelude.{List, drop}
 use Rattle.paired_code.specs.declared.part.Symbol.{Symbol}
 use Rattle.paired_code.specs.declared.row.Row.{Row}
 
-abbrev pub cells_in : Row → List Symbol
-cells_in row = drop row.first row.store.items
+abbrev pub symbols_in : Row → List Symbol
+symbols_in row = drop row.first row.store.items

@@ -6,10 +6,10 @@ ghost use Rattle.code_conventions.specs.Cells.{bra};
 ghost use Rattle.paired_code.specs.Cells.{swapbr, beq, bne, bgtz, bltz, data_word};
 ghost use Rattle.paired_code.specs.Machine.{reversed, is_single};
 ghost use Rattle.paired_code.specs.Layout.{between, fork, branch_cells, loop_cells, mirror_cells, inverse_sym, check_cells, check_equal_cells, check_differ_cells, check_positive_cells, Equal, Differ, Positive, place_register, enter_at_cells};
-ghost use Rattle.paired_code.specs.Laws.{SeqLaw, MirrorLaw, BranchLaw, WhileLaw, PlainLaw, CheckLaw, TestLaw, EmptyLaw, EnterLaw, EnterAtLaw};
-ghost use Rattle.paired_code.specs.Fit.{AllFit};
-ghost use Rattle.paired_code.specs.Stored.{cells_in};
-ghost use Rattle.paired_code.specs.Code.{Code, Kept, AllWithin, shift, unmarked, seq_code, branch_code, loop_code, marked_code, parts};
+ghost use Rattle.paired_code.specs.Laws.{SeqLaw, MirrorLaw, BranchLaw, WhileLaw, PlainLaw, CheckLaw, BranchTestLaw, EmptyLaw, EnterLaw, EnterAtLaw};
+ghost use Rattle.paired_code.specs.Fit.{AllSymbolsFit};
+ghost use Rattle.paired_code.specs.Stored.{symbols_in};
+ghost use Rattle.paired_code.specs.Code.{Code, KeptCode, AllWithin, shift, unmarked, seq_code, branch_code, loop_code, marked_code, parts};
 
 use crate::part::Symbol;
 use crate::row::Row;
@@ -32,14 +32,14 @@ pub struct Piece {
 }
 
 impl Model for Piece {
-    ghost use Rattle.paired_code.specs.Code.{Code, Kept};
-    ghost use Rattle.paired_code.specs.Stored.{cells_in};
+    ghost use Rattle.paired_code.specs.Code.{Code, KeptCode};
+    ghost use Rattle.paired_code.specs.Stored.{symbols_in};
 
     ghost Value = { Code };
 
-    ghost view = { λ p. record { cells = cells_in p.cells; marks = p.marks.items } };
+    ghost view = { λ p. record { cells = symbols_in p.cells; marks = p.marks.items } };
 
-    ghost invariant = { λ p. Kept (cells_in p.cells) p.marks.items };
+    ghost invariant = { λ p. KeptCode (symbols_in p.cells) p.marks.items };
 }
 
 /// No cells.
@@ -133,7 +133,7 @@ pub fn check_equal(alloc: Global, one: u8, other: u8, code: u32) -> Result<Piece
     requires one { one < 32 }
     requires other { other < 32 }
     ensures code { IfOk result (λ p. p ≡ unmarked (check_equal_cells one other code)) }
-    ensures law { IfOk result (λ p. TestLaw (Equal one other) code p.cells) }
+    ensures law { IfOk result (λ p. BranchTestLaw (Equal one other) code p.cells) }
 {
     let mut cells = Row::new(alloc);
     cells.push(Symbol::Own(beq(one, other, 2)))?;
@@ -147,7 +147,7 @@ pub fn check_differ(alloc: Global, one: u8, other: u8, code: u32) -> Result<Piec
     requires one { one < 32 }
     requires other { other < 32 }
     ensures code { IfOk result (λ p. p ≡ unmarked (check_differ_cells one other code)) }
-    ensures law { IfOk result (λ p. TestLaw (Differ one other) code p.cells) }
+    ensures law { IfOk result (λ p. BranchTestLaw (Differ one other) code p.cells) }
 {
     let mut cells = Row::new(alloc);
     cells.push(Symbol::Own(bne(one, other, 2)))?;
@@ -160,7 +160,7 @@ pub fn check_differ(alloc: Global, one: u8, other: u8, code: u32) -> Result<Piec
 pub fn check_positive(alloc: Global, reg: u8, code: u32) -> Result<Piece, NoMemory>
     requires { reg < 32 }
     ensures code { IfOk result (λ p. p ≡ unmarked (check_positive_cells reg code)) }
-    ensures law { IfOk result (λ p. TestLaw (Positive reg) code p.cells) }
+    ensures law { IfOk result (λ p. BranchTestLaw (Positive reg) code p.cells) }
 {
     let mut cells = Row::new(alloc);
     cells.push(Symbol::Own(bgtz(reg, 2)))?;
@@ -223,7 +223,7 @@ pub fn mirror(alloc: Global, piece: &Piece) -> Result<Piece, NoMemory>
 /// Its cells.
 pub fn cells_of(piece: &Piece) -> &[Symbol]
     ensures cells { result.now ≡ piece.now.cells }
-    ensures fit { AllFit piece.now.cells }
+    ensures fit { AllSymbolsFit piece.now.cells }
 {
     piece.cells.as_slice()
 }
@@ -237,7 +237,7 @@ pub fn marks_in(piece: &Piece) -> &[Span]
 }
 
 fn mirrored(alloc: Global, cells: &[Symbol]) -> Result<Row, NoMemory>
-    ensures { IfOk result (λ v. cells_in v ≡ map inverse_sym (reverse cells.now)) }
+    ensures { IfOk result (λ v. symbols_in v ≡ map inverse_sym (reverse cells.now)) }
 {
     let mut out = Row::new(alloc);
     for c in cells.iter().rev().copied() {
@@ -259,16 +259,16 @@ fn turned(cell: Symbol) -> Symbol
 }
 
 fn sealed(cells: Row, marks: Vec<Span>) -> Piece
-    requires fit { AllFit (cells_in cells) }
-    requires within { AllWithin (length (cells_in cells)) marks.items }
-    ensures { result ≡ record { cells = cells_in cells; marks = marks.items } }
+    requires fit { AllSymbolsFit (symbols_in cells) }
+    requires within { AllWithin (length (symbols_in cells)) marks.items }
+    ensures { result ≡ record { cells = symbols_in cells; marks = marks.items } }
 {
     Piece { cells, marks }
 }
 
 // The cells of a choice.
 fn branch_row(alloc: Global, flag: u8, yes: Row, no: Row) -> Result<Row, NoMemory>
-    ensures { IfOk result (λ v. cells_in v ≡ branch_cells flag (cells_in yes) (cells_in no)) }
+    ensures { IfOk result (λ v. symbols_in v ≡ branch_cells flag (symbols_in yes) (symbols_in no)) }
 {
     let no_size = no.len();
     let yes_size = yes.len();
@@ -286,7 +286,7 @@ fn branch_row(alloc: Global, flag: u8, yes: Row, no: Row) -> Result<Row, NoMemor
 
 // The cells of a loop.
 fn loop_row(alloc: Global, flag: u8, head: Row, tail: Row) -> Result<Row, NoMemory>
-    ensures { IfOk result (λ v. cells_in v ≡ loop_cells flag (cells_in head) (cells_in tail)) }
+    ensures { IfOk result (λ v. symbols_in v ≡ loop_cells flag (symbols_in head) (symbols_in tail)) }
 {
     let tail_size = tail.len();
     let head_size = head.len();
@@ -324,7 +324,7 @@ fn behind(front: usize, more: usize) -> u32
 }
 
 fn put_fork(cells: &mut Row, flag: u8, word: u32) -> Result<(), NoMemory>
-    ensures { OnOk result (cells_in cells.new ≡ cells_in cells.old ++ fork flag word []) }
+    ensures { OnOk result (symbols_in cells.new ≡ symbols_in cells.old ++ fork flag word []) }
 {
     cells.push(Symbol::Own(bgtz(flag, word)))?;
     cells.push(Symbol::Own(bltz(flag, word)))?;
@@ -332,7 +332,7 @@ fn put_fork(cells: &mut Row, flag: u8, word: u32) -> Result<(), NoMemory>
 }
 
 fn put_jump(cells: &mut Row, word: u32) -> Result<(), NoMemory>
-    ensures { OnOk result (cells_in cells.new ≡ cells_in cells.old ++ Symbol.Own (bra word) ∷ []) }
+    ensures { OnOk result (symbols_in cells.new ≡ symbols_in cells.old ++ Symbol.Own (bra word) ∷ []) }
 {
     cells.push(Symbol::Own(bra(word)))?;
     Ok(())

@@ -1,6 +1,6 @@
 // How rows of cells grow: of two rows that are joined, the shorter one is copied.
 ghost use Rattle.std.specs.Prelude.{◌≡◌, ◌≤◌, ◌<◌, ◌^◌, ◌++◌, ◌∷◌, [], length, OnOk};
-ghost use Rattle.paired_code.specs.Stored.{cells_in};
+ghost use Rattle.paired_code.specs.Stored.{symbols_in};
 
 use crate::part::Symbol;
 use crate::row::Row;
@@ -13,7 +13,7 @@ const FEW_CELLS: usize = 32;
 impl Row {
     /// No cells.
     pub(crate) fn new(alloc: Global) -> Row
-        ensures { cells_in result ≡ [] }
+        ensures { symbols_in result ≡ [] }
     {
         Row {
             store: Vec::new(alloc),
@@ -23,22 +23,22 @@ impl Row {
 
     /// The cells in order.
     pub(crate) fn as_slice(&self) -> &[Symbol]
-        ensures { result.now ≡ cells_in self.now }
+        ensures { result.now ≡ symbols_in self.now }
     {
         &self.store[self.first..]
     }
 
     /// How many cells there are.
     pub(crate) fn len(&self) -> usize
-        ensures count { result ≡ length (cells_in self.now) }
-        ensures few { length (cells_in self.now) < 2 ^ 63 }
+        ensures count { result ≡ length (symbols_in self.now) }
+        ensures few { length (symbols_in self.now) < 2 ^ 63 }
     {
         self.store.len() - self.first
     }
 
     /// Adds a cell after the others.
     pub(crate) fn push(&mut self, cell: Symbol) -> Result<(), NoMemory>
-        ensures { OnOk result (cells_in self.new ≡ cells_in self.old ++ cell ∷ []) }
+        ensures { OnOk result (symbols_in self.new ≡ symbols_in self.old ++ cell ∷ []) }
     {
         self.store.push(cell)?;
         Ok(())
@@ -46,7 +46,7 @@ impl Row {
 
     /// Adds the cells of another row after those of this one.
     pub(crate) fn append(&mut self, other: Row) -> Result<(), NoMemory>
-        ensures { OnOk result (cells_in self.new ≡ cells_in self.old ++ cells_in other) }
+        ensures { OnOk result (symbols_in self.new ≡ symbols_in self.old ++ symbols_in other) }
     {
         if other.len() >= FEW_CELLS && other.len() > self.len() {
             let mut joined = other;
@@ -60,7 +60,7 @@ impl Row {
 
     // Adds cells in front of the others.
     fn put_front(&mut self, more: &[Symbol]) -> Result<(), NoMemory>
-        ensures { OnOk result (cells_in self.new ≡ more.now ++ cells_in self.old) }
+        ensures { OnOk result (symbols_in self.new ≡ more.now ++ symbols_in self.old) }
     {
         if more.len() <= self.first {
             self.fill_room(more);
@@ -72,7 +72,7 @@ impl Row {
     // Writes cells into the space in front.
     fn fill_room(&mut self, more: &[Symbol])
         requires { length more.now ≤ self.old.first }
-        ensures { cells_in self.new ≡ more.now ++ cells_in self.old }
+        ensures { symbols_in self.new ≡ more.now ++ symbols_in self.old }
     {
         let front = self.first - more.len();
         self.store[front..self.first].copy_from_slice(more);
@@ -81,7 +81,7 @@ impl Row {
 
     // Moves the cells to a larger store, after other cells, with as much space in front as they all take.
     fn move_behind(&mut self, more: &[Symbol]) -> Result<(), NoMemory>
-        ensures { OnOk result (cells_in self.new ≡ more.now ++ cells_in self.old) }
+        ensures { OnOk result (symbols_in self.new ≡ more.now ++ symbols_in self.old) }
     {
         let room = more.len().saturating_add(self.len());
         let mut store = Vec::with_capacity(*self.store.allocator(), room.saturating_mul(2))?;

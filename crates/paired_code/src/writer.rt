@@ -2,9 +2,9 @@
 
 ghost use Rattle.std.specs.Prelude.{◌≡◌, ℕ, ◌+◌, ◌-◌, ◌^◌, ◌<◌, ◌≤◌, ◌++◌, [], length, map, pos, IfOk, OnOk, slice_index};
 ghost use Rattle.code_conventions.specs.pisa_isa.Image.{IsImage};
-ghost use Rattle.paired_code.specs.Cells.{rbra, start, finish};
+ghost use Rattle.paired_code.specs.Cells.{rbra, start_cell, finish};
 ghost use Rattle.paired_code.specs.Layout.{base, between, six};
-ghost use Rattle.paired_code.specs.Link.{places, linked, routine_code, routines_code, routines_size, first_top, link_code, link_size, static_word, Linked};
+ghost use Rattle.paired_code.specs.Link.{link_positions, linked, routine_code, routines_code, routines_size, first_top, link_code, link_size, static_word, Linked};
 ghost use Rattle.paired_code.specs.Fit.{EachFit};
 ghost use Rattle.std.specs.List.Sorted.{IsPermutation, IsNonDecreasingBy};
 ghost use Rattle.paired_code.specs.Code.{bodies, link_marks, marks_size};
@@ -31,12 +31,12 @@ pub fn link(
     requires few_marks { length main.marks + marks_size routines.items ≤ MOST_MARKS }
     ensures code { IfOk result (λ n. n.image.code ≡ link_code main.cells (bodies routines.items)) }
     ensures statics { IfOk result (λ n. n.image.statics
-        ≡ map (static_word (places (first_top main.cells) (bodies routines.items))) statics.items) }
+        ≡ map (static_word (link_positions (first_top main.cells) (bodies routines.items))) statics.items) }
     ensures image { IfOk result (λ n. IsImage n.image) }
     ensures law { IfOk result (λ n. Linked main.cells (bodies routines.items)
         (record {
           code = n.image.code;
-          routines = places (first_top main.cells)
+          routines = link_positions (first_top main.cells)
               (bodies routines.items);
         })) }
     ensures marks { IfOk result (λ n. IsPermutation (link_marks main routines.items) n.notes.marks) }
@@ -60,10 +60,10 @@ fn image_of(
     requires statics_in_limit { length statics.items ≤ MOST_STATICS }
     ensures code { IfOk result (λ p. p.code ≡ link_code main.cells (bodies routines.items)) }
     ensures statics { IfOk result (λ p. p.statics
-        ≡ map (static_word (places (first_top main.cells) (bodies routines.items))) statics.items) }
+        ≡ map (static_word (link_positions (first_top main.cells) (bodies routines.items))) statics.items) }
     ensures image { IfOk result IsImage }
     ensures law { IfOk result (λ p. Linked main.cells (bodies routines.items)
-        (record { code = p.code; routines = places (first_top main.cells) (bodies routines.items) })) }
+        (record { code = p.code; routines = link_positions (first_top main.cells) (bodies routines.items) })) }
 {
     let cells = cells_of(&main);
     let places = places_of(alloc, &routines, 1 + cells.len() as u32 + 1)?;
@@ -82,7 +82,7 @@ fn image_of(
 // The places of the SWAPBR cells, if the first routine has its first cell at `first`.
 fn places_of(alloc: Global, routines: &[Piece], first: u32) -> Result<Vec<u32>, NoMemory>
     requires { first + routines_size (bodies routines.now) ≤ MOST_CELLS }
-    ensures { IfOk result (λ v. v.items ≡ places first (bodies routines.now)) }
+    ensures { IfOk result (λ v. v.items ≡ link_positions first (bodies routines.now)) }
 {
     let mut found = Vec::new(alloc);
     let mut top = first;
@@ -196,7 +196,7 @@ fn word_of(word: StaticWord, places: &[u32]) -> u32
 }
 
 fn start() -> Cell
-    ensures { result ≡ start }
+    ensures { result ≡ start_cell }
 {
     with_word(Op::Start, 0, 0)
 }

@@ -12,11 +12,11 @@ use Rattle.pisa_asm.specs.declared.error.AsmError.TheVariants.{NotOneToOne, TooM
 use Rattle.pisa_asm.specs.declared.item.Item.{Item}
 use Rattle.pisa_asm.specs.declared.item.Item.TheVariants.{Nothing, Code, Static, Marked, Named}
 use Rattle.pisa_asm.specs.Chain.{and_then}
-use Rattle.pisa_asm.specs.Lines.{content_of, words_of}
+use Rattle.pisa_asm.specs.Lines.{content_of, line_words}
 use Rattle.pisa_asm.specs.LabelNames.{after_labels, label_names, Labels}
 use Rattle.pisa_asm.specs.Items.{item_from}
-use Rattle.pisa_asm.specs.Passes.{Surveyed, no_lines, labels_at, counted, surveyed_words, surveyed, resolved, with_cell}
-use Rattle.pisa_asm.specs.Passes.{linked_item, linked}
+use Rattle.pisa_asm.specs.Passes.{Surveyed, no_lines, labels_at, counted_item, surveyed_words, surveyed, resolved_cell, with_cell}
+use Rattle.pisa_asm.specs.Passes.{linked_item, linked_cells}
 use Rattle.pisa_asm.proofs.Chaining.{ok_then}
 use Rattle.pisa_asm.proofs.Ranging.{ItemFits, CellFits, item_fits, resolved_fits}
 
@@ -31,17 +31,17 @@ pub record Fit (survey : Surveyed) (code : List Cell) : Type 0 where
 -- what is on a line keeps that
 item_keeps : (line : ℕ) (labels : Labels) (survey longer : Surveyed) (code more : List Cell) (item : Item)
     → ItemFits item → Fit survey code
-    → counted line survey item ≡ Ok longer → linked_item line labels code item ≡ Ok more → Fit longer more
+    → counted_item line survey item ≡ Ok longer → linked_item line labels code item ≡ Ok more → Fit longer more
 item_keeps line labels survey longer code more Nothing i f h g =
     let same : survey ≡ longer = cc in
     let same_code : code ≡ more = cc in
     rw (← same, ← same_code) f
 item_keeps line labels survey longer code more (Code given) i f h g =
-    by_tests (is_one_to_one given.cell) (nat_lt survey.cells MOST_CELLS) (resolved labels (length code) given) refl refl
+    by_tests (is_one_to_one given.cell) (nat_lt survey.cells MOST_CELLS) (resolved_cell labels (length code) given) refl refl
     refl h g
   where
     by_tests : (o t : Bool) (r : Option Cell) → is_one_to_one given.cell ≡ o → nat_lt survey.cells MOST_CELLS ≡ t
-        → resolved labels (length code) given ≡ r
+        → resolved_cell labels (length code) given ≡ r
         → cond o (cond t (Ok (record survey { cells = survey.cells + 1 })) (Err (TooManyCells line)))
         (Err (NotOneToOne line)) ≡ Ok longer
         → with_cell line code r ≡ Ok more → Fit longer more
@@ -102,23 +102,23 @@ relabeled survey code labels f = record {
 -- lines keep it
 lines_keep : (number : ℕ) (labels : Labels) (survey end : Surveyed) (code whole : List Cell) (lines : List (List ℕ))
     → Fit survey code
-    → surveyed number survey lines ≡ Ok end → linked number labels code lines ≡ Ok whole → Fit end whole
+    → surveyed number survey lines ≡ Ok end → linked_cells number labels code lines ≡ Ok whole → Fit end whole
 lines_keep number labels survey end code whole [] f h g =
     let same : survey ≡ end = cc in
     let same_code : code ≡ whole = cc in
     rw (← same, ← same_code) f
 lines_keep number labels survey end code whole (line ∷ lines) f h g =
-    let words : List (List ℕ) = words_of (content_of line) in
+    let words : List (List ℕ) = line_words (content_of line) in
     let s = ok_then (surveyed_words number survey words) (λ longer. surveyed (number + 1) longer lines) end h in
     let i = ok_then (item_from number (after_labels words))
     (λ item. and_then (labels_at number survey.cells survey.labels (label_names words)) (λ labels.
-    counted number (record survey { labels = labels }) item)) s.0 s.1 in
+    counted_item number (record survey { labels = labels }) item)) s.0 s.1 in
     let l = ok_then (labels_at number survey.cells survey.labels (label_names words))
-    (λ labels. counted number (record survey { labels = labels }) i.0) s.0 i.2 in
+    (λ labels. counted_item number (record survey { labels = labels }) i.0) s.0 i.2 in
     let j = ok_then (item_from number (after_labels words))
-    (λ item. and_then (linked_item number labels code item) (λ longer. linked (number + 1) labels longer lines))
+    (λ item. and_then (linked_item number labels code item) (λ longer. linked_cells (number + 1) labels longer lines))
     whole g in
-    let m = ok_then (linked_item number labels code j.0) (λ longer. linked (number + 1) labels longer lines) whole j.2
+    let m = ok_then (linked_item number labels code j.0) (λ longer. linked_cells (number + 1) labels longer lines) whole j.2
     in
     let one : j.0 ≡ i.0 = cc (i.1, j.1) in
     lines_keep (number + 1) labels s.0 end m.0 whole lines
@@ -128,7 +128,7 @@ lines_keep number labels survey end code whole (line ∷ lines) f h g =
     s.2 m.2
 
 pub gathered : (lines : List (List ℕ)) (survey : Surveyed) (code : List Cell) → surveyed 1 no_lines lines ≡ Ok survey
-    → linked 1 survey.labels [] lines ≡ Ok code
+    → linked_cells 1 survey.labels [] lines ≡ Ok code
     → Fit survey code
 gathered lines survey code h g = lines_keep 1 survey.labels no_lines survey [] code lines
     (record {

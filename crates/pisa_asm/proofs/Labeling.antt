@@ -9,9 +9,9 @@ use mathlib.Core.List.{append_assoc, append-nil}
 use Rattle.pisa_isa.specs.declared.cell.Cell.{Cell}
 use Rattle.pisa_asm.specs.Chain.{and_then}
 use Rattle.pisa_asm.specs.Lines.{ends_in, all_but_last}
-use Rattle.pisa_asm.specs.LabelNames.{is_name, is_label, label_names, after_labels, Labels, place_of}
+use Rattle.pisa_asm.specs.LabelNames.{is_label_name, is_label, label_names, after_labels, Labels, label_address}
 use Rattle.pisa_isa.specs.Notes.{NoteLists}
-use Rattle.pisa_asm.specs.Mnemonics.{mnemonic, static_word, mark_word, name_word}
+use Rattle.pisa_asm.specs.Mnemonics.{mnemonic, static_mnemonic, mark_word, name_word}
 use Rattle.pisa_asm.specs.Passes.{label_at, labels_at}
 use Rattle.pisa_asm.specs.AssemblyText.{ItemText, nothing, instruction, static, marked, named, label_word, AreNew}
 use Rattle.pisa_asm.proofs.Spelling.{both}
@@ -33,7 +33,7 @@ last_place name b = rw length-append (omega arith)
 front_of_label : (name : List ℕ) → all_but_last (label_word name) ≡ name
 front_of_label name = rw (last_place name 58) (front_pushed name 58)
 
-label_is : (name : List ℕ) → is_name name ≡ true → is_label (label_word name) ≡ true
+label_is : (name : List ℕ) → is_label_name name ≡ true → is_label (label_word name) ≡ true
 label_is name h = rw (last_place name 58, last_pushed name 58, front_pushed name 58, h) refl
 
 take_all : (xs : List ℕ) → take (length xs) xs ≡ xs
@@ -55,7 +55,7 @@ label_written (b ∷ word) h =
     colon c h = grind (arith, nat_tests)
 
 pub record Split (words : List (List ℕ)) : Type 0 where
-  pub are_names : All (λ name. is_name name ≡ true) (label_names words)
+  pub are_names : All (λ name. is_label_name name ≡ true) (label_names words)
   pub written : words ≡ map label_word (label_names words) ++ after_labels words
 
 pub split_sound : (words : List (List ℕ)) → Split words
@@ -64,9 +64,9 @@ split_sound (word ∷ words) = by_label (is_label word) refl (split_sound words)
   where
     by_label : (t : Bool) → is_label word ≡ t → Split words → Split (word ∷ words)
     by_label true e s =
-        let p = both (ends_in 58 word) (is_name (all_but_last word)) e in
+        let p = both (ends_in 58 word) (is_label_name (all_but_last word)) e in
         record {
-          are_names = rw e (All-cons (λ name. is_name name ≡ true) (all_but_last word) (label_names words) p.1
+          are_names = rw e (All-cons (λ name. is_label_name name ≡ true) (all_but_last word) (label_names words) p.1
               s.are_names);
           written = rw e (ap (λ w. w ∷ words) (label_written word p.0)
               ∙ ap (λ ws. label_word (all_but_last word) ∷ ws) s.written);
@@ -87,19 +87,19 @@ item_no_labels labels at words code statics notes (nothing w c s o) = rw w (reco
 item_no_labels labels at words code statics notes (instruction cell i c s o) =
     rw i.written (first_no_label (mnemonic cell.op) (i.a ++ (i.b ++ (i.c ++ i.last))) (no_label cell.op))
 item_no_labels labels at words code statics notes (static word n w t c s o) =
-    rw w (first_no_label static_word (word ∷ []) refl)
+    rw w (first_no_label static_mnemonic (word ∷ []) refl)
 item_no_labels labels at words code statics notes (marked m t c s o) =
     rw t.written (first_no_label mark_word (t.first ∷ t.end ∷ t.at ∷ []) refl)
 item_no_labels labels at words code statics notes (named n t c s o) =
     rw t.written (first_no_label name_word (t.cell ∷ n.text ∷ []) refl)
 
-pub after_complete : (names words : List (List ℕ)) → All (λ name. is_name name ≡ true) names → NoLabels words
+pub after_complete : (names words : List (List ℕ)) → All (λ name. is_label_name name ≡ true) names → NoLabels words
     → after_labels (map label_word names ++ words) ≡ words
 after_complete [] words all n = n.after
 after_complete (name ∷ names) words all n =
     rw (label_is name (all 0 name (omega arith))) (after_complete names words (λ k d h. all (suc k) d (omega arith)) n)
 
-pub names_complete : (names words : List (List ℕ)) → All (λ name. is_name name ≡ true) names → NoLabels words
+pub names_complete : (names words : List (List ℕ)) → All (λ name. is_label_name name ≡ true) names → NoLabels words
     → label_names (map label_word names ++ words) ≡ names
 names_complete [] words all n = n.names
 names_complete (name ∷ names) words all n =
@@ -130,10 +130,10 @@ labels_sound line at before [] end h = record {
   all = let same : before ≡ end = cc in sym same
       ∙ sym (append-nil before);
 }
-labels_sound line at before (name ∷ names) end h = by_place (place_of name before) refl h
+labels_sound line at before (name ∷ names) end h = by_place (label_address name before) refl h
     (labels_sound line at (before ++ (name, at) ∷ []) names end)
   where
-    by_place : (o : Option ℕ) → place_of name before ≡ o → and_then (label_at line name at before o)
+    by_place : (o : Option ℕ) → label_address name before ≡ o → and_then (label_at line name at before o)
         (λ longer. labels_at line at longer names) ≡ Ok end
         → (labels_at line at (before ++ (name, at) ∷ []) names ≡ Ok end
         → Placed at (before ++ (name, at) ∷ []) names end)

@@ -20,7 +20,7 @@ use Rattle.pisa_asm.specs.Mnemonics.{mark_word, name_word}
 use Rattle.pisa_asm.specs.Operands.{sole}
 use Rattle.pisa_asm.specs.Items.{unsigned_from, mark_from, name_of, name_from}
 use Rattle.pisa_asm.specs.Passes.{if_fits}
-use Rattle.pisa_asm.specs.AssemblyText.{UnsignedText, MarkText, NameText, joined}
+use Rattle.pisa_asm.specs.AssemblyText.{UnsignedText, MarkText, NameText, joined_notes}
 use Rattle.pisa_asm.proofs.Chaining.{some_then, some_map, tested}
 use Rattle.pisa_asm.proofs.Spelling.{both}
 use Rattle.pisa_asm.proofs.Texts.{unsigned_sound, unsigned_complete}
@@ -96,20 +96,20 @@ name_complete words n t = rw (unsigned_complete t.cell n.cell t.is_cell, t.is_te
 same_notes : (m m' : List Mark) (n n' : List FieldName) → m ≡ m' → n ≡ n' → notes m n ≡ notes m' n'
 same_notes m m' n n' e f = ap (λ ms. notes ms n) e ∙ ap (λ ns. notes m' ns) f
 
-pub joined-nil : (a : NoteLists) → joined a no_notes ≡ a
+pub joined-nil : (a : NoteLists) → joined_notes a no_notes ≡ a
 joined-nil a = same_notes (a.marks ++ []) a.marks (a.names ++ []) a.names (append-nil a.marks) (append-nil a.names)
 
-pub joined_assoc : (a b c : NoteLists) → joined (joined a b) c ≡ joined a (joined b c)
+pub joined_assoc : (a b c : NoteLists) → joined_notes (joined_notes a b) c ≡ joined_notes a (joined_notes b c)
 joined_assoc a b c = same_notes ((a.marks ++ b.marks) ++ c.marks) (a.marks ++ (b.marks ++ c.marks))
     ((a.names ++ b.names) ++ c.names) (a.names ++ (b.names ++ c.names))
     (append_assoc a.marks b.marks c.marks) (append_assoc a.names b.names c.names)
 
-pub marks_joined : (a : NoteLists) (marks : List Mark) → notes (a.marks ++ marks) a.names ≡ joined a (notes marks [])
+pub marks_joined : (a : NoteLists) (marks : List Mark) → notes (a.marks ++ marks) a.names ≡ joined_notes a (notes marks [])
 marks_joined a marks = same_notes (a.marks ++ marks) (a.marks ++ marks) a.names (a.names ++ []) refl
     (sym (append-nil a.names))
 
 pub names_joined : (a : NoteLists) (names : List FieldName)
-    → notes a.marks (a.names ++ names) ≡ joined a (notes [] names)
+    → notes a.marks (a.names ++ names) ≡ joined_notes a (notes [] names)
 names_joined a names = same_notes a.marks (a.marks ++ []) (a.names ++ names) (a.names ++ names)
     (sym (append-nil a.marks)) refl
 
@@ -138,9 +138,9 @@ names_front statics left (n ∷ xs) ys h =
     and_from (name_fits statics left n) _ p.0 (names_front statics (left - length n.text) xs ys p.1)
 
 -- if notes fit, those before them fit
-pub fits_front : (image : Segments) (a b : NoteLists) → fits image (joined a b) ≡ true → fits image a ≡ true
+pub fits_front : (image : Segments) (a b : NoteLists) → fits image (joined_notes a b) ≡ true → fits image a ≡ true
 fits_front image a b h =
-    let f = fitting image (joined a b) h in
+    let f = fitting image (joined_notes a b) h in
     let cells = length image.code in
     fits_by image a (record {
       few_marks = few_front a.marks b.marks MOST_MARKS f.few_marks;

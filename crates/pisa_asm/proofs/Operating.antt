@@ -15,11 +15,11 @@ use Rattle.pisa_asm.specs.declared.operand.Operand.{Operand}
 use Rattle.pisa_asm.specs.declared.operand.Operand.TheVariants.{Number, Label}
 use Rattle.pisa_asm.specs.declared.operand.Given.{Given}
 use Rattle.pisa_asm.specs.Numerals.{word_number, amount_number, offset_number}
-use Rattle.pisa_asm.specs.LabelNames.{begins_name, is_name, Labels, place_of}
+use Rattle.pisa_asm.specs.LabelNames.{begins_name, is_label_name, Labels, label_address}
 use Rattle.pisa_asm.specs.Mnemonics.{mnemonic}
 use Rattle.pisa_asm.specs.Operands.{last_of, register_from, registers_from, offset_from, sole, operand_from}
 use Rattle.pisa_asm.specs.Operands.{with_operand, given_from}
-use Rattle.pisa_asm.specs.Passes.{resolved}
+use Rattle.pisa_asm.specs.Passes.{resolved_cell}
 use Rattle.pisa_asm.specs.AssemblyText.{NumberText, plain, plus, minus, RegisterWords, OffsetText, by_number, by_label}
 use Rattle.pisa_asm.specs.AssemblyText.{LastWords, InstructionText}
 use Rattle.pisa_asm.proofs.Chaining.{some_then, some_map}
@@ -32,12 +32,12 @@ use Rattle.pisa_asm.proofs.Texts.{number_sound, number_complete, Taken, taken_so
 digit_no_name : (d : ℕ) → is_ascii_digit d ≡ true → begins_name d ≡ false
 digit_no_name d h = grind (arith, nat_tests)
 
-digits_no_name : (bytes : List ℕ) → 0 < length bytes → all_ascii_digits bytes ≡ true → is_name bytes ≡ false
+digits_no_name : (bytes : List ℕ) → 0 < length bytes → all_ascii_digits bytes ≡ true → is_label_name bytes ≡ false
 digits_no_name [] some h = absurd (omega arith)
 digits_no_name (d ∷ bytes) some h = let p = both (is_ascii_digit d) (all_ascii_digits bytes) h in
     rw (digit_no_name d p.0) refl
 
-no_name : (low end : ℕ) (bytes : List ℕ) (word : ℕ) → NumberText low end bytes word → is_name bytes ≡ false
+no_name : (low end : ℕ) (bytes : List ℕ) (word : ℕ) → NumberText low end bytes word → is_label_name bytes ≡ false
 no_name low end bytes word (plain n h e) = digits_no_name bytes n.0 (own.from bytes n.1)
 no_name low end bytes word (plus digits same n h e) = rw same refl
 no_name low end bytes word (minus digits same n h e) = rw same refl
@@ -59,7 +59,7 @@ said_at : (labels : Labels) (at : ℕ) (last : Last) (words : List (List ℕ)) (
 said_at labels at last words cell final imm w e = rw e (record { said = w; same = refl })
 
 last_sound : (labels : Labels) (at : ℕ) (last : Last) (words : List (List ℕ)) (o : Operand) (cell final : Cell)
-    → operand_from last words ≡ Some o → resolved labels at (with_operand cell o) ≡ Some final
+    → operand_from last words ≡ Some o → resolved_cell labels at (with_operand cell o) ≡ Some final
     → LastSaid labels at last words cell final
 last_sound labels at Nothing [] o cell final h g =
     let zero : o ≡ Number 0 = cc in
@@ -82,16 +82,16 @@ last_sound labels at Amount words o cell final h g =
     said_at labels at Amount words cell final m.0 (s.0, sole_one words s.0 s.1, number_sound 0 32 s.0 m.0 s.2) (cc)
 last_sound labels at Offset words o cell final h g =
     let s = some_then offset_from (sole words) o h in
-    by_name s.0 (is_name s.0) refl s.2 (sole_one words s.0 s.1)
+    by_name s.0 (is_label_name s.0) refl s.2 (sole_one words s.0 s.1)
   where
-    by_name : (word : List ℕ) (t : Bool) → is_name word ≡ t
+    by_name : (word : List ℕ) (t : Bool) → is_label_name word ≡ t
         → cond t (Some (Label word)) (option_map Number (offset_number word)) ≡ Some o → words ≡ word ∷ []
         → LastSaid labels at Offset words cell final
     by_name word true n h w =
         let label : o ≡ Label word = cc in
-        let g0 : option_map (λ (place : ℕ). record cell { imm = difference_of place at }) (place_of word labels)
+        let g0 : option_map (λ (place : ℕ). record cell { imm = difference_of place at }) (label_address word labels)
         ≡ Some final = rw label at g in
-        let p = some_map (λ (place : ℕ). record cell { imm = difference_of place at }) (place_of word labels) final g0
+        let p = some_map (λ (place : ℕ). record cell { imm = difference_of place at }) (label_address word labels) final g0
         in
         said_at labels at Offset words cell final (difference_of p.0 at) (word, w, by_label p.0 n p.1 refl) p.2
     by_name word false n h w =
@@ -104,7 +104,7 @@ last_sound labels at Offset words o cell final h g =
 record LastRead (labels : Labels) (at : ℕ) (last : Last) (words : List (List ℕ)) (cell : Cell) (imm : ℕ) : Type 0 where
   operand : Operand
   read : operand_from last words ≡ Some operand
-  resolves : resolved labels at (with_operand cell operand) ≡ Some (record cell { imm = imm })
+  resolves : resolved_cell labels at (with_operand cell operand) ≡ Some (record cell { imm = imm })
 
 offset_complete : (labels : Labels) (at : ℕ) (words : List (List ℕ)) (cell : Cell) (imm : ℕ) (word : List ℕ)
     → words ≡ word ∷ [] → OffsetText labels at word imm
@@ -199,7 +199,7 @@ said_final labels at op words rest cell final r l =
     }
 
 pub instruction_sound : (labels : Labels) (at : ℕ) (op : Op) (words : List (List ℕ)) (given : Given) (final : Cell)
-    → given_from op words ≡ Some given → resolved labels at given ≡ Some final
+    → given_from op words ≡ Some given → resolved_cell labels at given ≡ Some final
     → InstructionText labels at (mnemonic op ∷ words) final
 instruction_sound labels at op words given final h g =
     let r = some_then (λ (registers : Cell × List (List ℕ)). option_map (with_operand registers.0)
@@ -214,7 +214,7 @@ pub record InstructionRead (labels : Labels) (at : ℕ) (words : List (List ℕ)
   pub given : Given
   pub all : words ≡ mnemonic cell.op ∷ behind
   pub read : given_from cell.op behind ≡ Some given
-  pub resolves : resolved labels at given ≡ Some cell
+  pub resolves : resolved_cell labels at given ≡ Some cell
 
 pub instruction_complete : (labels : Labels) (at : ℕ) (words : List (List ℕ)) (cell : Cell)
     → InstructionText labels at words cell → InstructionRead labels at words cell

@@ -21,15 +21,15 @@ use Rattle.pisa_asm.specs.declared.item.Item.{Item}
 use Rattle.pisa_asm.specs.declared.item.Item.TheVariants.{Nothing as NoItem, Code, Static, Marked, Named}
 use Rattle.pisa_asm.specs.Numerals.{below, minus, numeral, number_in, plain_digits, register_number, word_number}
 use Rattle.pisa_asm.specs.Numerals.{amount_number, offset_number}
-use Rattle.pisa_asm.specs.LabelNames.{is_name, Labels, place_of}
+use Rattle.pisa_asm.specs.LabelNames.{is_label_name, Labels, label_address}
 use Rattle.pisa_asm.specs.declared.error.AsmError.TheVariants.{UnknownMnemonic}
 use Rattle.std.specs.Str.{bytes_eq}
 use Rattle.pisa_asm.specs.Chain.{and_then, or_bad}
-use Rattle.pisa_asm.specs.Mnemonics.{row_named, static_word, mark_word, name_word}
+use Rattle.pisa_asm.specs.Mnemonics.{row_named, static_mnemonic, mark_word, name_word}
 use Rattle.pisa_asm.specs.Operands.{last_of, register_from, registers_from, offset_from, sole, operand_from}
 use Rattle.pisa_asm.specs.Operands.{with_operand, given_from}
 use Rattle.pisa_asm.specs.Items.{static_from, mark_from, name_from, item_by, item_from}
-use Rattle.pisa_asm.specs.Passes.{resolved_by, resolved}
+use Rattle.pisa_asm.specs.Passes.{resolved_by, resolved_cell}
 use Rattle.pisa_asm.proofs.Chaining.{some_then, some_map, tested}
 
 pub below_in : (end : ℕ) (o : Option ℕ) (n : ℕ) → below end o ≡ Some n → (o ≡ Some n) × (n < end)
@@ -132,7 +132,7 @@ operand_fits Amount words o h =
     rw m.2 (amount_in s.0 m.0 s.2)
 operand_fits Offset words o h =
     let s = some_then offset_from (sole words) o h in
-    named_or_number (is_name s.0) s.0 s.2
+    named_or_number (is_label_name s.0) s.0 s.2
   where
     named_or_number : (t : Bool) (word : List ℕ) → cond t (Some (Label word)) (option_map Number (offset_number word))
         ≡ Some o → OperandFits Offset o
@@ -263,7 +263,7 @@ item_fits line (first ∷ words) item h = by_row (row_named first) h
 
     by_row : (o : Option Op) → item_by line first words o ≡ Ok item → ItemFits item
     by_row (Some op) h = row_fits line op words item (given_from op words) refl h
-    by_row None h = by_word (bytes_eq first static_word) (bytes_eq first mark_word) (bytes_eq first name_word) h
+    by_row None h = by_word (bytes_eq first static_mnemonic) (bytes_eq first mark_word) (bytes_eq first name_word) h
 
 -- a label keeps all but the offset
 pub record CellFits (given : Given) (cell : Cell) : Type 0 where
@@ -271,14 +271,14 @@ pub record CellFits (given : Given) (cell : Cell) : Type 0 where
   pub same : is_one_to_one cell ≡ is_one_to_one given.cell
 
 pub resolved_fits : (labels : Labels) (at : ℕ) (given : Given) (cell : Cell) → GivenFits given
-    → resolved labels at given ≡ Some cell → CellFits given cell
+    → resolved_cell labels at given ≡ Some cell → CellFits given cell
 resolved_fits labels at given cell g h = by_target given.target g.target h
   where
     by_target : (target : Option (List ℕ)) → TargetFits given.cell.op target
         → resolved_by labels at given.cell target ≡ Some cell → CellFits given cell
     by_target None t h = let same : cell ≡ given.cell = cc in rw same (record { in_range = g.in_range; same = refl })
     by_target (Some name) t h =
-        let p = some_map (λ (place : ℕ). record given.cell { imm = difference_of place at }) (place_of name labels) cell
+        let p = some_map (λ (place : ℕ). record given.cell { imm = difference_of place at }) (label_address name labels) cell
         h in
         rw p.2 (record {
           in_range = record {

@@ -22,13 +22,13 @@ use Rattle.pisa_isa.proofs.Ranges.{a_below, b_below, c_below, imm_word}
 use Rattle.pisa_isa.proofs.Noting.{fitting, notes}
 use Rattle.pisa_asm.specs.declared.item.Item.{Item}
 use Rattle.pisa_asm.specs.declared.item.Item.TheVariants.{Code, Static, Marked, Named}
-use Rattle.pisa_asm.specs.Lines.{lines_of, content_of, words_of}
-use Rattle.pisa_asm.specs.Mnemonics.{mnemonic, static_word, mark_word, name_word}
+use Rattle.pisa_asm.specs.Lines.{lines_of, content_of, line_words}
+use Rattle.pisa_asm.specs.Mnemonics.{mnemonic, static_mnemonic, mark_word, name_word}
 use Rattle.pisa_asm.specs.LabelNames.{Labels, is_label, label_names, after_labels}
 use Rattle.pisa_asm.specs.Items.{item_from}
-use Rattle.pisa_asm.specs.Passes.{Surveyed, no_lines, counted, surveyed_words, surveyed, linked_item, linked}
-use Rattle.pisa_asm.specs.Passes.{noted_item, noted, noted_of_text}
-use Rattle.pisa_asm.specs.AssemblyText.{joined}
+use Rattle.pisa_asm.specs.Passes.{Surveyed, no_lines, counted_item, surveyed_words, surveyed, linked_item, linked_cells}
+use Rattle.pisa_asm.specs.Passes.{noted_item, noted_lines, noted_of_text}
+use Rattle.pisa_asm.specs.AssemblyText.{joined_notes}
 use Rattle.pisa_asm.specs.Listing.{signed_text, cell_text, static_text, mark_text, name_text, lines_by, listing}
 use Rattle.pisa_asm.proofs.Spelling.{is_clean, operand_words, mark_words, name_words, cell_spaced, static_spaced}
 use Rattle.pisa_asm.proofs.Spelling.{mark_spaced, name_spaced, mnemonic_word, operands_are_words, static_is_word}
@@ -40,8 +40,8 @@ use Rattle.pisa_asm.proofs.Noting.{same_fits, fits_front, names_joined, marks_jo
 -- a line without labels that reads as an item
 record ReadsAs (line : List ℕ) (item : Item) : Type 0 where
   clean : list_all is_clean line ≡ true
-  read : (number : ℕ) → item_from number (after_labels (words_of (content_of line))) ≡ Ok item
-  no_names : label_names (words_of (content_of line)) ≡ []
+  read : (number : ℕ) → item_from number (after_labels (line_words (content_of line))) ≡ Ok item
+  no_names : label_names (line_words (content_of line)) ≡ []
 
 reads_as : (line first : List ℕ) (words : List (List ℕ)) (item : Item) → IsSpacedLine line first words
     → is_label first ≡ false
@@ -65,9 +65,9 @@ cell_reads c i =
 
 static_reads : (word : ℕ) → word < 2 ^ 32 → ReadsAs (static_text word) (Static word)
 static_reads word h =
-    let line : IsSpacedLine (static_text word) static_word (signed_text word ∷ []) =
-    rw (static_spaced word) (spaced_line static_word (signed_text word ∷ []) refl (static_is_word word h)) in
-    reads_as (static_text word) static_word (signed_text word ∷ []) (Static word) line refl
+    let line : IsSpacedLine (static_text word) static_mnemonic (signed_text word ∷ []) =
+    rw (static_spaced word) (spaced_line static_mnemonic (signed_text word ∷ []) refl (static_is_word word h)) in
+    reads_as (static_text word) static_mnemonic (signed_text word ∷ []) (Static word) line refl
     (λ number. static_read number word h)
 
 mark_reads : (m : Mark) → m.first < 2 ^ 32 → m.end < 2 ^ 32 → m.at < 2 ^ 32 → ReadsAs (mark_text m) (Marked m)
@@ -154,7 +154,7 @@ is_below n end h = grind (arith, nat_tests)
 -- the first pass
 
 cell_surveyed : (number : ℕ) (survey : Surveyed) (c : Cell) → IsCell c → survey.cells < MOST_CELLS
-    → surveyed_words number survey (words_of (content_of (cell_text c)))
+    → surveyed_words number survey (line_words (content_of (cell_text c)))
     ≡ Ok (record survey { cells = survey.cells + 1 })
 cell_surveyed number survey c i room =
     let r = cell_reads c i.in_range in
@@ -172,7 +172,7 @@ code_surveyed number survey (c ∷ code) rest all room =
     (omega arith))
 
 static_surveyed : (number : ℕ) (survey : Surveyed) (word : ℕ) → word < 2 ^ 32 → length survey.statics < MOST_STATICS
-    → surveyed_words number survey (words_of (content_of (static_text word)))
+    → surveyed_words number survey (line_words (content_of (static_text word)))
     ≡ Ok (record survey { statics = survey.statics ++ word ∷ [] })
 static_surveyed number survey word small room =
     let r = static_reads word small in
@@ -199,7 +199,7 @@ statics_surveyed number survey (word ∷ statics) rest all room =
 -- lines of which it counts nothing
 skip_surveyed : {X : Type 0} (text : X → List ℕ) (item : X → Item) (number : ℕ) (survey : Surveyed) (xs : List X)
     (rest : List ℕ) → All (λ x. ReadsAs (text x) (item x)) xs
-    → ((line : ℕ) (so_far : Surveyed) (x : X) → counted line so_far (item x) ≡ Ok so_far)
+    → ((line : ℕ) (so_far : Surveyed) (x : X) → counted_item line so_far (item x) ≡ Ok so_far)
     → surveyed number survey (lines_of (lines_by text xs ++ rest)) ≡ surveyed (after number xs) survey (lines_of rest)
 skip_surveyed text item number survey [] rest all skip = refl
 skip_surveyed text item number survey (x ∷ xs) rest all skip =
@@ -215,24 +215,24 @@ skip_surveyed text item number survey (x ∷ xs) rest all skip =
 -- the second pass
 
 code_linked : (number : ℕ) (labels : Labels) (code more : List Cell) (rest : List ℕ) → All IsCell more
-    → linked number labels code (lines_of (lines_by cell_text more ++ rest))
-    ≡ linked (after number more) labels (code ++ more) (lines_of rest)
-code_linked number labels code [] rest all = ap (λ (cs : List Cell). linked number labels cs (lines_of rest))
+    → linked_cells number labels code (lines_of (lines_by cell_text more ++ rest))
+    ≡ linked_cells (after number more) labels (code ++ more) (lines_of rest)
+code_linked number labels code [] rest all = ap (λ (cs : List Cell). linked_cells number labels cs (lines_of rest))
     (sym (append-nil code))
 code_linked number labels code (c ∷ more) rest all =
     let i : IsCell c = head IsCell c more all in
     let r = cell_reads c i.in_range in
     rw (front cell_text c more rest r.clean, r.read number)
     (code_linked (number + 1) labels (code ++ c ∷ []) more rest (tail IsCell c more all)
-    ∙ ap (λ (cs : List Cell). linked (after (number + 1) more) labels cs (lines_of rest))
+    ∙ ap (λ (cs : List Cell). linked_cells (after (number + 1) more) labels cs (lines_of rest))
     (append_assoc code (c ∷ []) more))
 
 -- lines that give no cell
 skip_linked : {X : Type 0} (text : X → List ℕ) (item : X → Item) (number : ℕ) (labels : Labels) (code : List Cell)
     (xs : List X) (rest : List ℕ)
     → All (λ x. ReadsAs (text x) (item x)) xs → ((line : ℕ) (x : X) → linked_item line labels code (item x) ≡ Ok code)
-    → linked number labels code (lines_of (lines_by text xs ++ rest))
-    ≡ linked (after number xs) labels code (lines_of rest)
+    → linked_cells number labels code (lines_of (lines_by text xs ++ rest))
+    ≡ linked_cells (after number xs) labels code (lines_of rest)
 skip_linked text item number labels code [] rest all skip = refl
 skip_linked text item number labels code (x ∷ xs) rest all skip =
     let r : ReadsAs (text x) (item x) = head (λ x. ReadsAs (text x) (item x)) x xs all in
@@ -245,8 +245,8 @@ skip_linked text item number labels code (x ∷ xs) rest all skip =
 skip_noted : {X : Type 0} (text : X → List ℕ) (item : X → Item) (number : ℕ) (image : Segments) (so_far : NoteLists)
     (xs : List X) (rest : List ℕ)
     → All (λ x. ReadsAs (text x) (item x)) xs → ((line : ℕ) (x : X) → noted_item line image so_far (item x) ≡ Ok so_far)
-    → noted number image so_far (lines_of (lines_by text xs ++ rest))
-    ≡ noted (after number xs) image so_far (lines_of rest)
+    → noted_lines number image so_far (lines_of (lines_by text xs ++ rest))
+    ≡ noted_lines (after number xs) image so_far (lines_of rest)
 skip_noted text item number image so_far [] rest all skip = refl
 skip_noted text item number image so_far (x ∷ xs) rest all skip =
     let r : ReadsAs (text x) (item x) = head (λ x. ReadsAs (text x) (item x)) x xs all in
@@ -256,10 +256,10 @@ skip_noted text item number image so_far (x ∷ xs) rest all skip =
 marks_noted : (number : ℕ) (image : Segments) (so_far : NoteLists) (marks : List Mark) (rest : List ℕ)
     → All (λ m. ReadsAs (mark_text m) (Marked m)) marks
     → fits image (notes (so_far.marks ++ marks) so_far.names) ≡ true
-    → noted number image so_far (lines_of (lines_by mark_text marks ++ rest))
-    ≡ noted (after number marks) image (notes (so_far.marks ++ marks) so_far.names) (lines_of rest)
+    → noted_lines number image so_far (lines_of (lines_by mark_text marks ++ rest))
+    ≡ noted_lines (after number marks) image (notes (so_far.marks ++ marks) so_far.names) (lines_of rest)
 marks_noted number image so_far [] rest all h =
-    ap (λ (ms : List Mark). noted number image (notes ms so_far.names) (lines_of rest)) (sym (append-nil so_far.marks))
+    ap (λ (ms : List Mark). noted_lines number image (notes ms so_far.names) (lines_of rest)) (sym (append-nil so_far.marks))
 marks_noted number image so_far (m ∷ marks) rest all h =
     let r : ReadsAs (mark_text m) (Marked m) = head (λ m. ReadsAs (mark_text m) (Marked m)) m marks all in
     let longer : NoteLists = notes (so_far.marks ++ m ∷ []) so_far.names in
@@ -270,19 +270,19 @@ marks_noted number image so_far (m ∷ marks) rest all h =
     (ap (λ ms. notes ms so_far.names) same) h in
     let here : fits image longer ≡ true =
     fits_front image longer (notes marks []) (same_fits image (notes (longer.marks ++ marks) longer.names)
-    (joined longer (notes marks [])) (marks_joined longer marks) whole) in
+    (joined_notes longer (notes marks [])) (marks_joined longer marks) whole) in
     rw (front mark_text m marks rest r.clean, r.read number, here)
     (marks_noted (number + 1) image longer marks rest (tail (λ m. ReadsAs (mark_text m) (Marked m)) m marks all) whole
-    ∙ ap (λ (ms : List Mark). noted (after (number + 1) marks) image (notes ms so_far.names) (lines_of rest))
+    ∙ ap (λ (ms : List Mark). noted_lines (after (number + 1) marks) image (notes ms so_far.names) (lines_of rest))
     (sym same))
 
 names_noted : (number : ℕ) (image : Segments) (so_far : NoteLists) (names : List FieldName) (rest : List ℕ)
     → All (λ n. ReadsAs (name_text n) (Named n)) names
     → fits image (notes so_far.marks (so_far.names ++ names)) ≡ true
-    → noted number image so_far (lines_of (lines_by name_text names ++ rest))
-    ≡ noted (after number names) image (notes so_far.marks (so_far.names ++ names)) (lines_of rest)
+    → noted_lines number image so_far (lines_of (lines_by name_text names ++ rest))
+    ≡ noted_lines (after number names) image (notes so_far.marks (so_far.names ++ names)) (lines_of rest)
 names_noted number image so_far [] rest all h =
-    ap (λ (ns : List FieldName). noted number image (notes so_far.marks ns) (lines_of rest))
+    ap (λ (ns : List FieldName). noted_lines number image (notes so_far.marks ns) (lines_of rest))
     (sym (append-nil so_far.names))
 names_noted number image so_far (n ∷ names) rest all h =
     let r : ReadsAs (name_text n) (Named n) = head (λ n. ReadsAs (name_text n) (Named n)) n names all in
@@ -294,10 +294,10 @@ names_noted number image so_far (n ∷ names) rest all h =
     (ap (λ ns. notes so_far.marks ns) same) h in
     let here : fits image longer ≡ true =
     fits_front image longer (notes [] names) (same_fits image (notes longer.marks (longer.names ++ names))
-    (joined longer (notes [] names)) (names_joined longer names) whole) in
+    (joined_notes longer (notes [] names)) (names_joined longer names) whole) in
     rw (front name_text n names rest r.clean, r.read number, here)
     (names_noted (number + 1) image longer names rest (tail (λ n. ReadsAs (name_text n) (Named n)) n names all) whole
-    ∙ ap (λ (ns : List FieldName). noted (after (number + 1) names) image (notes so_far.marks ns) (lines_of rest))
+    ∙ ap (λ (ns : List FieldName). noted_lines (after (number + 1) names) image (notes so_far.marks ns) (lines_of rest))
     (sym same))
 
 -- all together
@@ -353,7 +353,7 @@ listing_surveyed n i words r =
     (λ line so_far n. refl)
 
 listing_linked : (n : NotedImage) → IsImage n.image → EachReads n
-    → linked 1 [] [] (lines_of (lines_by cell_text n.image.code ++ statics_on n)) ≡ Ok n.image.code
+    → linked_cells 1 [] [] (lines_of (lines_by cell_text n.image.code ++ statics_on n)) ≡ Ok n.image.code
 listing_linked n i r =
     let at_statics = after 1 n.image.code in
     let at_marks = after at_statics n.image.statics in
@@ -364,13 +364,13 @@ listing_linked n i r =
     (λ line m. refl)
 
 listing_noted : (n : NotedImage) → fits n.image n.notes ≡ true → EachReads n
-    → noted 1 n.image no_notes (lines_of (lines_by cell_text n.image.code ++ statics_on n)) ≡ Ok n.notes
+    → noted_lines 1 n.image no_notes (lines_of (lines_by cell_text n.image.code ++ statics_on n)) ≡ Ok n.notes
 listing_noted n h r =
     let at_statics = after 1 n.image.code in
     let at_marks = after at_statics n.image.statics in
     let only_marks : fits n.image (notes n.notes.marks []) ≡ true =
     fits_front n.image (notes n.notes.marks []) (notes [] n.notes.names)
-    (same_fits n.image n.notes (joined (notes n.notes.marks []) (notes [] n.notes.names))
+    (same_fits n.image n.notes (joined_notes (notes n.notes.marks []) (notes [] n.notes.names))
     (names_joined (notes n.notes.marks []) n.notes.names) h) in
     skip_noted cell_text code_item 1 n.image no_notes n.image.code (statics_on n) r.code (λ line c. refl)
     ∙ skip_noted static_text Static at_statics n.image no_notes n.image.statics (marks_on n) r.statics (λ line w. refl)
@@ -381,7 +381,7 @@ pub listing_read : (n : NotedImage) → IsImage n.image → All IsWord n.image.s
     → noted_of_text (listing n) ≡ Ok n
 listing_read n i words h =
     let r = each_reads n i words h in
-    let third : noted 1 (record { code = n.image.code; statics = n.image.statics }) no_notes
+    let third : noted_lines 1 (record { code = n.image.code; statics = n.image.statics }) no_notes
     (lines_of (lines_by cell_text n.image.code ++ statics_on n)) ≡ Ok n.notes =
     listing_noted n h r in
     rw (regrouped n, listing_surveyed n i words r, listing_linked n i r, i.one_start, i.one_finish, third) refl

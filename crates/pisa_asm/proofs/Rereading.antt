@@ -24,7 +24,7 @@ use Rattle.pisa_asm.specs.declared.item.Item.TheVariants.{Code, Static, Marked, 
 use Rattle.pisa_asm.specs.Numerals.{numeral_from, numeral, below, minus, number_in, plain_digits, register_number}
 use Rattle.pisa_asm.specs.Numerals.{word_number, unsigned_number}
 use Rattle.pisa_asm.specs.LabelNames.{is_label}
-use Rattle.pisa_asm.specs.Mnemonics.{mnemonic, rows, row_named, static_word, mark_word, name_word}
+use Rattle.pisa_asm.specs.Mnemonics.{mnemonic, rows, row_named, static_mnemonic, mark_word, name_word}
 use Rattle.pisa_asm.specs.Operands.{last_of, register_from, registers_from, offset_from, operand_from, given_from}
 use Rattle.pisa_asm.specs.Items.{item_from}
 use Rattle.pisa_asm.specs.Listing.{signed_text, offset_text}
@@ -165,11 +165,11 @@ pub item_read : (line : ℕ) (c : Cell) → IsInRange c → item_from line (mnem
     ≡ Ok (Code (record { cell = c; target = None }))
 item_read line c i = rw (row_read c.op, given_read c i) refl
 
-pub static_no_row : row_named static_word ≡ None
+pub static_no_row : row_named static_mnemonic ≡ None
 unfolding mnemonic rows
 static_no_row = refl
 
-pub static_read : (line word : ℕ) → word < 2 ^ 32 → item_from line (static_word ∷ signed_text word ∷ [])
+pub static_read : (line word : ℕ) → word < 2 ^ 32 → item_from line (static_mnemonic ∷ signed_text word ∷ [])
     ≡ Ok (Static word)
 static_read line word h = rw (static_no_row, signed_read word h) refl
 

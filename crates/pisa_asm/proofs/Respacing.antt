@@ -5,7 +5,7 @@ use Rattle.std.specs.Prelude.{◌||◌}
 use Rattle.std.specs.List.{list_all, before_first, position_or_len}
 use Rattle.std.proofs.lemmas.List.Sums.{AllPass-from_list_all}
 use Rattle.std.proofs.lemmas.List.Folds.{list_all-append}
-use Rattle.pisa_asm.specs.Lines.{onto_first, lines_of, ends_in, content_of, words_of, is_blank, begins_word}
+use Rattle.pisa_asm.specs.Lines.{onto_first, lines_of, ends_in, content_of, line_words, is_blank_byte, begins_word}
 use Rattle.pisa_asm.proofs.Cutting.{joined, one_more}
 use Rattle.pisa_asm.proofs.Spelling.{is_clean, is_solid, is_word, spaced, both}
 
@@ -19,22 +19,22 @@ neither false true c h = absurd (cc)
 neither false false true h = absurd (cc)
 neither false false false h = (refl, refl, refl)
 
-not_blank : (b : ℕ) → is_solid b ≡ true → is_blank b ≡ false
-not_blank b h = not_so (is_blank b) ((both (is_clean b) (not (is_blank b)) h).1)
+not_blank : (b : ℕ) → is_solid b ≡ true → is_blank_byte b ≡ false
+not_blank b h = not_so (is_blank_byte b) ((both (is_clean b) (not (is_blank_byte b)) h).1)
 
 clean_of : (b : ℕ) → is_clean b ≡ true → ((b == 10) ≡ false) × ((b == 13) ≡ false) × ((b == 59) ≡ false)
 clean_of b h = neither (b == 10) (b == 13) (b == 59) h
 
 solid_front : (b : ℕ) (word rest : List ℕ) → is_solid b ≡ true → list_all is_solid word ≡ true
     → begins_word rest ≡ false
-    → words_of (b ∷ (word ++ rest)) ≡ (b ∷ word) ∷ words_of rest
+    → line_words (b ∷ (word ++ rest)) ≡ (b ∷ word) ∷ line_words rest
 solid_front b [] rest s a n = rw (not_blank b s, n) refl
 solid_front b (c ∷ word) rest s a n =
     let p = both (is_solid c) (list_all is_solid word) a in
     joined b c (word ++ rest) (not_blank b s) (not_blank c p.0) ∙ ap (onto_first b) (solid_front c word rest p.0 p.1 n)
 
 word_front : (word rest : List ℕ) → is_word word ≡ true → begins_word rest ≡ false
-    → words_of (word ++ rest) ≡ word ∷ words_of rest
+    → line_words (word ++ rest) ≡ word ∷ line_words rest
 word_front [] rest h n = absurd (cc)
 word_front (b ∷ word) rest h n = let p = both (is_solid b) (list_all is_solid word) h in
     solid_front b word rest p.0 p.1 n
@@ -43,7 +43,7 @@ spaced_begins : (words : List (List ℕ)) → begins_word (spaced words) ≡ fal
 spaced_begins [] = refl
 spaced_begins (word ∷ words) = refl
 
-spaced_words : (words : List (List ℕ)) → list_all is_word words ≡ true → words_of (spaced words) ≡ words
+spaced_words : (words : List (List ℕ)) → list_all is_word words ≡ true → line_words (spaced words) ≡ words
 spaced_words [] h = refl
 spaced_words (word ∷ words) h =
     let p = both (is_word word) (list_all is_word words) h in
@@ -55,7 +55,7 @@ solid_clean : (word : List ℕ) → list_all is_solid word ≡ true → list_all
 solid_clean [] h = refl
 solid_clean (b ∷ word) h =
     let p = both (is_solid b) (list_all is_solid word) h in
-    let q = both (is_clean b) (not (is_blank b)) p.0 in
+    let q = both (is_clean b) (not (is_blank_byte b)) p.0 in
     rw (q.0, solid_clean word p.1) refl
 
 word_clean : (word : List ℕ) → is_word word ≡ true → list_all is_clean word ≡ true
@@ -99,7 +99,7 @@ line_front (b ∷ line) rest h =
 -- a first word and others, each after a space
 pub record IsSpacedLine (line : List ℕ) (first : List ℕ) (words : List (List ℕ)) : Type 0 where
   pub clean : list_all is_clean line ≡ true
-  pub reads : words_of (content_of line) ≡ first ∷ words
+  pub reads : line_words (content_of line) ≡ first ∷ words
 
 pub spaced_line : (first : List ℕ) (words : List (List ℕ)) → is_word first ≡ true → list_all is_word words ≡ true
     → IsSpacedLine (first ++ spaced words) first words
@@ -107,6 +107,6 @@ spaced_line first words f h =
     let clean = clean-append first (spaced words) (word_clean first f) (spaced_clean words h) in
     record {
       clean = clean;
-      reads = ap words_of (content_same (first ++ spaced words) clean)
+      reads = ap line_words (content_same (first ++ spaced words) clean)
           ∙ word_front first (spaced words) f (spaced_begins words) ∙ ap (λ ws. first ∷ ws) (spaced_words words h);
     }

@@ -20,8 +20,8 @@ use Rattle.pisa_isa.specs.Notes.{is_name}
 use Rattle.pisa_isa.specs.Table.{has_a, has_b, c_is_source}
 use Rattle.pisa_asm.specs.declared.operand.Last.{Last}
 use Rattle.pisa_asm.specs.declared.operand.Last.TheVariants.{Nothing, Word, Amount, Offset}
-use Rattle.pisa_asm.specs.Lines.{is_blank}
-use Rattle.pisa_asm.specs.Mnemonics.{mnemonic, static_word, mark_word, name_word}
+use Rattle.pisa_asm.specs.Lines.{is_blank_byte}
+use Rattle.pisa_asm.specs.Mnemonics.{mnemonic, static_mnemonic, mark_word, name_word}
 use Rattle.pisa_asm.specs.Operands.{last_of}
 use Rattle.pisa_asm.specs.Listing.{signed_text, offset_text, register_text, last_text, cell_text, static_text}
 use Rattle.pisa_asm.specs.Listing.{mark_text, name_text}
@@ -31,7 +31,7 @@ abbrev pub is_clean : ℕ → Bool
 is_clean b = not (b == 10 || b == 13 || b == 59)
 
 abbrev pub is_solid : ℕ → Bool
-is_solid b = is_clean b && not (is_blank b)
+is_solid b = is_clean b && not (is_blank_byte b)
 
 abbrev pub is_word : List ℕ → Bool
 is_word [] = false
@@ -98,8 +98,8 @@ cell_spaced c =
     (last_spaced (last_of c.op) c.imm)
     ∙ ap (λ s. mnemonic c.op ++ s) (sym (operands_spaced a b t l))
 
-pub static_spaced : (word : ℕ) → static_text word ≡ static_word ++ spaced (signed_text word ∷ [])
-static_spaced word = ap (λ s. static_word ++ s) (one_spaced (signed_text word))
+pub static_spaced : (word : ℕ) → static_text word ≡ static_mnemonic ++ spaced (signed_text word ∷ [])
+static_spaced word = ap (λ s. static_mnemonic ++ s) (one_spaced (signed_text word))
 
 abbrev pub mark_words : Mark → List (List ℕ)
 mark_words m = decimal m.first ∷ decimal m.end ∷ decimal m.at ∷ []

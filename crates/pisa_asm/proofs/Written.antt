@@ -24,16 +24,16 @@ use Rattle.pisa_asm.specs.declared.operand.Given.{Given}
 use Rattle.pisa_asm.specs.declared.item.Item.{Item}
 use Rattle.pisa_asm.specs.declared.item.Item.TheVariants.{Nothing, Code, Static, Marked, Named}
 use Rattle.pisa_asm.specs.Chain.{and_then, or_bad}
-use Rattle.pisa_asm.specs.Lines.{content_of, words_of}
+use Rattle.pisa_asm.specs.Lines.{content_of, line_words}
 use Rattle.pisa_asm.specs.Numerals.{word_number}
 use Rattle.pisa_asm.specs.LabelNames.{label_names, after_labels, Labels}
-use Rattle.pisa_asm.specs.Mnemonics.{mnemonic, rows, row_named, static_word, mark_word, name_word}
+use Rattle.pisa_asm.specs.Mnemonics.{mnemonic, rows, row_named, static_mnemonic, mark_word, name_word}
 use Rattle.pisa_asm.specs.Operands.{sole, given_from}
 use Rattle.pisa_asm.specs.Items.{static_from, mark_from, name_from, item_by, item_from}
-use Rattle.pisa_asm.specs.Passes.{Surveyed, no_lines, labels_at, counted, surveyed_words, surveyed, resolved, with_cell}
-use Rattle.pisa_asm.specs.Passes.{linked_item, linked, sealed, with_mark, with_name, if_fits, noted_item, noted}
+use Rattle.pisa_asm.specs.Passes.{Surveyed, no_lines, labels_at, counted_item, surveyed_words, surveyed, resolved_cell, with_cell}
+use Rattle.pisa_asm.specs.Passes.{linked_item, linked_cells, sealed_image, with_mark, with_field_name, if_fits, noted_item, noted_lines}
 use Rattle.pisa_asm.specs.Passes.{noted_of_lines}
-use Rattle.pisa_asm.specs.AssemblyText.{one_mark, one_name, joined, ItemText, nothing, instruction, static, marked}
+use Rattle.pisa_asm.specs.AssemblyText.{one_mark, one_name, joined_notes, ItemText, nothing, instruction, static, marked}
 use Rattle.pisa_asm.specs.AssemblyText.{named, LinesText, finish, one_line, AreNew, AssemblyText}
 use Rattle.pisa_asm.proofs.Chaining.{ok_then, some_then}
 use Rattle.pisa_asm.proofs.Ranging.{CellFits, given_fits, resolved_fits}
@@ -60,12 +60,12 @@ record ItemSaid (labels : Labels) (words : List (List ℕ)) (survey longer : Sur
   count_is : longer.cells ≡ survey.cells + length cells
   statics_are : longer.statics ≡ survey.statics ++ statics
   labels_are : longer.labels ≡ survey.labels
-  notes_are : behind ≡ joined before notes
+  notes_are : behind ≡ joined_notes before notes
 
 -- what follows the labels, by what it is read as
 abbrev IsItem : Labels → ℕ → List (List ℕ) → Item → Type 0
 IsItem labels at words Nothing = words ≡ []
-IsItem labels at words (Code given) = (cell : Cell) → resolved labels at given ≡ Some cell
+IsItem labels at words (Code given) = (cell : Cell) → resolved_cell labels at given ≡ Some cell
     → ItemText labels at words (cell ∷ []) [] no_notes
 IsItem labels at words (Static n) = ItemText labels at words [] (n ∷ []) no_notes
 IsItem labels at words (Marked m) = ItemText labels at words [] [] (one_mark m)
@@ -77,12 +77,12 @@ item_is labels at line [] item h = let same : item ≡ Nothing = cc in rw same r
 item_is labels at line (first ∷ words) item h = by_row (row_named first) refl h
   where
     by_number : (o : Option ℕ) → static_from words ≡ o → and_then (or_bad line o) (λ word. Ok (Static word)) ≡ Ok item
-        → first ≡ static_word → IsItem labels at (first ∷ words) item
+        → first ≡ static_mnemonic → IsItem labels at (first ∷ words) item
     by_number None e h f = absurd (cc)
     by_number (Some n) e h f =
         let same : item ≡ Static n = cc in
         let s = some_then word_number (sole words) n e in
-        rw same (static s.0 n (ap (λ w. w ∷ words) f ∙ ap (λ ws. static_word ∷ ws) (sole_one words s.0 s.1))
+        rw same (static s.0 n (ap (λ w. w ∷ words) f ∙ ap (λ ws. static_mnemonic ∷ ws) (sole_one words s.0 s.1))
         (number_sound (2 ^ 31) (2 ^ 32) s.0 n s.2) refl refl refl)
 
     by_mark : (o : Option Mark) → mark_from words ≡ o → and_then (or_bad line o) (λ mark. Ok (Marked mark)) ≡ Ok item
@@ -100,14 +100,14 @@ item_is labels at line (first ∷ words) item h = by_row (row_named first) refl 
         let same : item ≡ Named n = cc in
         rw (same, f) (named n (name_sound words n e) refl refl refl)
 
-    by_word : (s m n : Bool) → bytes_eq first static_word ≡ s → bytes_eq first mark_word ≡ m
+    by_word : (s m n : Bool) → bytes_eq first static_mnemonic ≡ s → bytes_eq first mark_word ≡ m
         → bytes_eq first name_word ≡ n
         → cond s (and_then (or_bad line (static_from words)) (λ word. Ok (Static word)))
         (cond m (and_then (or_bad line (mark_from words)) (λ mark. Ok (Marked mark)))
         (cond n (and_then (or_bad line (name_from words)) (λ name. Ok (Named name))) (Err (UnknownMnemonic line))))
         ≡ Ok item
         → IsItem labels at (first ∷ words) item
-    by_word true m n e f g h = by_number (static_from words) refl h ((bytes_eq-Decides first static_word).0 e)
+    by_word true m n e f g h = by_number (static_from words) refl h ((bytes_eq-Decides first static_mnemonic).0 e)
     by_word false true n e f g h = by_mark (mark_from words) refl h ((bytes_eq-Decides first mark_word).0 f)
     by_word false false true e f g h = by_name (name_from words) refl h ((bytes_eq-Decides first name_word).0 g)
     by_word false false false e f g h = absurd (cc)
@@ -123,13 +123,13 @@ item_is labels at line (first ∷ words) item h = by_row (row_named first) refl 
     by_row : (o : Option Op) → row_named first ≡ o → item_by line first words o ≡ Ok item
         → IsItem labels at (first ∷ words) item
     by_row (Some op) e h = by_given op (given_from op words) refl h (row_sound rows first op e)
-    by_row None e h = by_word (bytes_eq first static_word) (bytes_eq first mark_word) (bytes_eq first name_word) refl
+    by_row None e h = by_word (bytes_eq first static_mnemonic) (bytes_eq first mark_word) (bytes_eq first name_word) refl
         refl refl h
 
 -- a line without code and static words
 note_said : (labels : Labels) (words : List (List ℕ)) (survey longer : Surveyed) (code more : List Cell)
     (before behind notes : NoteLists)
-    → ItemText labels (length code) words [] [] notes → survey ≡ longer → code ≡ more → behind ≡ joined before notes
+    → ItemText labels (length code) words [] [] notes → survey ≡ longer → code ≡ more → behind ≡ joined_notes before notes
     → ItemSaid labels words survey longer code more before behind
 note_said labels words survey longer code more before behind notes t same same_code n =
     rw (← same, ← same_code) (record {
@@ -144,12 +144,12 @@ note_said labels words survey longer code more before behind notes t same same_c
       notes_are = n;
     })
 
-no_note : (before behind : NoteLists) → before ≡ behind → behind ≡ joined before no_notes
+no_note : (before behind : NoteLists) → before ≡ behind → behind ≡ joined_notes before no_notes
 no_note before behind same = sym same ∙ sym (joined-nil before)
 
 item_said : (line : ℕ) (labels : Labels) (words : List (List ℕ)) (image : Segments) (survey longer : Surveyed)
     (code more : List Cell) (before behind : NoteLists) (item : Item)
-    → IsItem labels (length code) words item → counted line survey item ≡ Ok longer
+    → IsItem labels (length code) words item → counted_item line survey item ≡ Ok longer
     → linked_item line labels code item ≡ Ok more → noted_item line image before item ≡ Ok behind
     → ItemSaid labels words survey longer code more before behind
 item_said line labels words image survey longer code more before behind Nothing i h g n =
@@ -160,13 +160,13 @@ item_said line labels words image survey longer code more before behind (Marked 
     note_said labels words survey longer code more before behind (one_mark m) i (cc) (cc)
     (sym p.0 ∙ marks_joined before (m ∷ []))
 item_said line labels words image survey longer code more before behind (Named field) i h g n =
-    let p = passed line image (with_name before field) behind n in
+    let p = passed line image (with_field_name before field) behind n in
     note_said labels words survey longer code more before behind (one_name field) i (cc) (cc)
     (sym p.0 ∙ names_joined before (field ∷ []))
 item_said line labels words image survey longer code more before behind (Code given) i h g n =
-    by_tests (is_one_to_one given.cell) (nat_lt survey.cells MOST_CELLS) (resolved labels (length code) given) refl h g
+    by_tests (is_one_to_one given.cell) (nat_lt survey.cells MOST_CELLS) (resolved_cell labels (length code) given) refl h g
   where
-    by_tests : (o t : Bool) (r : Option Cell) → resolved labels (length code) given ≡ r
+    by_tests : (o t : Bool) (r : Option Cell) → resolved_cell labels (length code) given ≡ r
         → cond o (cond t (Ok (record survey { cells = survey.cells + 1 })) (Err (TooManyCells line)))
         (Err (NotOneToOne line)) ≡ Ok longer
         → with_cell line code r ≡ Ok more → ItemSaid labels words survey longer code more before behind
@@ -219,12 +219,12 @@ record LinesSaid (labels : Labels) (survey end : Surveyed) (code whole : List Ce
   labels_are : end.labels ≡ survey.labels ++ written
   code_is : whole ≡ code ++ more
   statics_are : end.statics ≡ survey.statics ++ statics
-  notes_are : behind ≡ joined before notes
+  notes_are : behind ≡ joined_notes before notes
 
 lines_said : (number : ℕ) (labels : Labels) (image : Segments) (survey end : Surveyed) (code whole : List Cell)
     (before behind : NoteLists) (lines : List (List ℕ))
-    → survey.cells ≡ length code → surveyed number survey lines ≡ Ok end → linked number labels code lines ≡ Ok whole
-    → noted number image before lines ≡ Ok behind
+    → survey.cells ≡ length code → surveyed number survey lines ≡ Ok end → linked_cells number labels code lines ≡ Ok whole
+    → noted_lines number image before lines ≡ Ok behind
     → LinesSaid labels survey end code whole before behind lines
 lines_said number labels image survey end code whole before behind [] count h g o =
     let same : survey ≡ end = cc in
@@ -242,23 +242,23 @@ lines_said number labels image survey end code whole before behind [] count h g 
       notes_are = no_note before behind (cc);
     })
 lines_said number labels image survey end code whole before behind (line ∷ lines) count h g o =
-    let words : List (List ℕ) = words_of (content_of line) in
+    let words : List (List ℕ) = line_words (content_of line) in
     let names : List (List ℕ) = label_names words in
     let s = ok_then (surveyed_words number survey words) (λ longer. surveyed (number + 1) longer lines) end h in
     let i = ok_then (item_from number (after_labels words))
     (λ item. and_then (labels_at number survey.cells survey.labels (label_names words)) (λ labels.
-    counted number (record survey { labels = labels }) item)) s.0 s.1 in
+    counted_item number (record survey { labels = labels }) item)) s.0 s.1 in
     let l = ok_then (labels_at number survey.cells survey.labels (label_names words))
-    (λ labels. counted number (record survey { labels = labels }) i.0) s.0 i.2 in
+    (λ labels. counted_item number (record survey { labels = labels }) i.0) s.0 i.2 in
     let j = ok_then (item_from number (after_labels words))
-    (λ item. and_then (linked_item number labels code item) (λ longer. linked (number + 1) labels longer lines))
+    (λ item. and_then (linked_item number labels code item) (λ longer. linked_cells (number + 1) labels longer lines))
     whole g in
-    let m = ok_then (linked_item number labels code j.0) (λ longer. linked (number + 1) labels longer lines) whole j.2
+    let m = ok_then (linked_item number labels code j.0) (λ longer. linked_cells (number + 1) labels longer lines) whole j.2
     in
     let k = ok_then (item_from number (after_labels words))
-    (λ item. and_then (noted_item number image before item) (λ longer. noted (number + 1) image longer lines))
+    (λ item. and_then (noted_item number image before item) (λ longer. noted_lines (number + 1) image longer lines))
     behind o in
-    let t = ok_then (noted_item number image before k.0) (λ longer. noted (number + 1) image longer lines) behind k.2 in
+    let t = ok_then (noted_item number image before k.0) (λ longer. noted_lines (number + 1) image longer lines) behind k.2 in
     let one : j.0 ≡ i.0 = cc (i.1, j.1) in
     let same : k.0 ≡ i.0 = cc (i.1, k.1) in
     let P : Item → Type 0 = λ item. linked_item number labels code item ≡ Ok m.0 in
@@ -284,7 +284,7 @@ lines_said number labels image survey end code whole before behind (line ∷ lin
       written = placed (length code) names ++ rest.written;
       more = item.cells ++ rest.more;
       statics = item.statics ++ rest.statics;
-      notes = joined item.notes rest.notes;
+      notes = joined_notes item.notes rest.notes;
       text = one_line (length code) line lines names (after_labels words) rest.written item.cells rest.more item.statics
           rest.statics item.notes rest.notes
           (record { are_names = split.are_names; written = split.written }) item.text (subst Rest length_is rest.text);
@@ -295,7 +295,7 @@ lines_said number labels image survey end code whole before behind (line ∷ lin
       code_is = rest.code_is ∙ ap (λ c. c ++ rest.more) item.code_is ∙ append_assoc code item.cells rest.more;
       statics_are = rest.statics_are ∙ ap (λ w. w ++ rest.statics) item.statics_are
           ∙ append_assoc survey.statics item.statics rest.statics;
-      notes_are = rest.notes_are ∙ ap (λ b. joined b rest.notes) item.notes_are
+      notes_are = rest.notes_are ∙ ap (λ b. joined_notes b rest.notes) item.notes_are
           ∙ joined_assoc before item.notes rest.notes;
     }
 
@@ -305,7 +305,7 @@ record SealedAs (code : List Cell) (statics : List ℕ) (image : Segments) : Typ
   one_finish : count_by is_finish code ≡ 1
   same : image ≡ record { code = code; statics = statics }
 
-sealed_as : (code : List Cell) (statics : List ℕ) (image : Segments) → sealed code statics ≡ Ok image
+sealed_as : (code : List Cell) (statics : List ℕ) (image : Segments) → sealed_image code statics ≡ Ok image
     → SealedAs code statics image
 sealed_as code statics image h = by_tests (nat_eq (count_by is_start code) 1) (nat_eq (count_by is_finish code) 1) refl
     refl h
@@ -343,25 +343,25 @@ item_fits_on line image before behind Nothing f h = same_fits image before behin
 item_fits_on line image before behind (Code given) f h = same_fits image before behind (cc) f
 item_fits_on line image before behind (Static word) f h = same_fits image before behind (cc) f
 item_fits_on line image before behind (Marked m) f h = (passed line image (with_mark before m) behind h).1
-item_fits_on line image before behind (Named n) f h = (passed line image (with_name before n) behind h).1
+item_fits_on line image before behind (Named n) f h = (passed line image (with_field_name before n) behind h).1
 
 noted_fits : (number : ℕ) (image : Segments) (before behind : NoteLists) (lines : List (List ℕ))
-    → fits image before ≡ true → noted number image before lines ≡ Ok behind
+    → fits image before ≡ true → noted_lines number image before lines ≡ Ok behind
     → fits image behind ≡ true
 noted_fits number image before behind [] f h = same_fits image before behind (cc) f
 noted_fits number image before behind (line ∷ lines) f h =
-    let k = ok_then (item_from number (after_labels (words_of (content_of line))))
-    (λ item. and_then (noted_item number image before item) (λ longer. noted (number + 1) image longer lines))
+    let k = ok_then (item_from number (after_labels (line_words (content_of line))))
+    (λ item. and_then (noted_item number image before item) (λ longer. noted_lines (number + 1) image longer lines))
     behind h in
-    let t = ok_then (noted_item number image before k.0) (λ longer. noted (number + 1) image longer lines) behind k.2 in
+    let t = ok_then (noted_item number image before k.0) (λ longer. noted_lines (number + 1) image longer lines) behind k.2 in
     noted_fits (number + 1) image t.0 behind lines (item_fits_on number image before t.0 k.0 f t.1) t.2
 
 abbrev with_notes : List (List ℕ) → Segments → Result NotedImage AsmError
-with_notes lines image = and_then (noted 1 image no_notes lines) (λ notes. Ok (noted_image image notes))
+with_notes lines image = and_then (noted_lines 1 image no_notes lines) (λ notes. Ok (noted_image image notes))
 
 image_is_written : (lines : List (List ℕ)) (survey : Surveyed) (code : List Cell) (image : Segments) (notes : NoteLists)
-    → surveyed 1 no_lines lines ≡ Ok survey → linked 1 survey.labels [] lines ≡ Ok code
-    → sealed code survey.statics ≡ Ok image → noted 1 image no_notes lines ≡ Ok notes
+    → surveyed 1 no_lines lines ≡ Ok survey → linked_cells 1 survey.labels [] lines ≡ Ok code
+    → sealed_image code survey.statics ≡ Ok image → noted_lines 1 image no_notes lines ≡ Ok notes
     → AssemblyText lines (noted_image image notes)
 image_is_written lines survey code image notes h g e o =
     let parts : SealedAs code survey.statics image = sealed_as code survey.statics image e in
@@ -390,12 +390,12 @@ image_is_written lines survey code image notes h g e o =
 
 pub read_is_written : (lines : List (List ℕ)) (n : NotedImage) → noted_of_lines lines ≡ Ok n → AssemblyText lines n
 read_is_written lines n h =
-    let s = ok_then (surveyed 1 no_lines lines) (λ survey. and_then (linked 1 survey.labels [] lines)
-    (λ code. and_then (sealed code survey.statics) (with_notes lines))) n h in
-    let c = ok_then (linked 1 s.0.labels [] lines) (λ code. and_then (sealed code s.0.statics) (with_notes lines)) n s.2
+    let s = ok_then (surveyed 1 no_lines lines) (λ survey. and_then (linked_cells 1 survey.labels [] lines)
+    (λ code. and_then (sealed_image code survey.statics) (with_notes lines))) n h in
+    let c = ok_then (linked_cells 1 s.0.labels [] lines) (λ code. and_then (sealed_image code s.0.statics) (with_notes lines)) n s.2
     in
-    let i = ok_then (sealed c.0 s.0.statics) (with_notes lines) n c.2 in
-    let o = ok_then (noted 1 i.0 no_notes lines) (λ notes. Ok (noted_image i.0 notes)) n i.2 in
+    let i = ok_then (sealed_image c.0 s.0.statics) (with_notes lines) n c.2 in
+    let o = ok_then (noted_lines 1 i.0 no_notes lines) (λ notes. Ok (noted_image i.0 notes)) n i.2 in
     let same : noted_image i.0 o.0 ≡ n = cc (o.2) in
     subst (AssemblyText lines) same (image_is_written lines s.0 c.0 i.0 o.0 s.1 c.1 i.1 o.1)
 
@@ -407,7 +407,7 @@ record ItemRead (line : ℕ) (labels : Labels) (words : List (List ℕ)) (image 
   read : item_from line words ≡ Ok item
   links : linked_item line labels code item ≡ Ok (code ++ cells)
   notes : noted_item line image before item ≡ Ok behind
-  counts : counted line survey item ≡ Ok (record survey {
+  counts : counted_item line survey item ≡ Ok (record survey {
     cells = survey.cells + length cells;
     statics = survey.statics ++ statics;
   })
@@ -450,17 +450,17 @@ cell_read line labels words image survey code cell before behind r one room same
     }
 
 -- notes after which no others were joined
-none_joined : (before here behind : NoteLists) → here ≡ no_notes → behind ≡ joined before here → before ≡ behind
-none_joined before here behind e h = sym (h ∙ ap (λ n. joined before n) e ∙ joined-nil before)
+none_joined : (before here behind : NoteLists) → here ≡ no_notes → behind ≡ joined_notes before here → before ≡ behind
+none_joined before here behind e h = sym (h ∙ ap (λ n. joined_notes before n) e ∙ joined-nil before)
 
 -- notes after which one was joined
-mark_joined : (before here behind : NoteLists) (m : Mark) → here ≡ one_mark m → behind ≡ joined before here
+mark_joined : (before here behind : NoteLists) (m : Mark) → here ≡ one_mark m → behind ≡ joined_notes before here
     → with_mark before m ≡ behind
-mark_joined before here behind m e h = marks_joined before (m ∷ []) ∙ sym (h ∙ ap (λ n. joined before n) e)
+mark_joined before here behind m e h = marks_joined before (m ∷ []) ∙ sym (h ∙ ap (λ n. joined_notes before n) e)
 
-name_joined : (before here behind : NoteLists) (n : FieldName) → here ≡ one_name n → behind ≡ joined before here
-    → with_name before n ≡ behind
-name_joined before here behind n e h = names_joined before (n ∷ []) ∙ sym (h ∙ ap (λ x. joined before x) e)
+name_joined : (before here behind : NoteLists) (n : FieldName) → here ≡ one_name n → behind ≡ joined_notes before here
+    → with_field_name before n ≡ behind
+name_joined before here behind n e h = names_joined before (n ∷ []) ∙ sym (h ∙ ap (λ x. joined_notes before x) e)
 
 -- a note that fits passes
 passes_as : (line : ℕ) (image : Segments) (a b : NoteLists) → a ≡ b → fits image b ≡ true → if_fits line image a ≡ Ok b
@@ -470,7 +470,7 @@ item_reads : (line : ℕ) (labels : Labels) (words : List (List ℕ)) (image : S
     (code cells : List Cell) (statics : List ℕ) (before here behind : NoteLists)
     → ItemText labels (length code) words cells statics here → list_all is_one_to_one cells ≡ true
     → survey.cells + length cells ≤ MOST_CELLS
-    → length survey.statics + length statics ≤ MOST_STATICS → behind ≡ joined before here → fits image behind ≡ true
+    → length survey.statics + length statics ≤ MOST_STATICS → behind ≡ joined_notes before here → fits image behind ≡ true
     → ItemRead line labels words image survey code cells statics before behind
 item_reads line labels words image survey code cells statics before here behind (nothing w c s n) one room static_room j
     f = record {
@@ -494,7 +494,7 @@ item_reads line labels words image survey code cells statics before here behind 
       read = rw (t.written, name_no_row, name_complete words field t) refl;
       links = rw c (ap Ok (sym (append-nil code)));
       counts = rw (c, s) (nothing_more survey);
-      notes = passes_as line image (with_name before field) behind (name_joined before here behind field n j) f;
+      notes = passes_as line image (with_field_name before field) behind (name_joined before here behind field n j) f;
     }
 item_reads line labels words image survey code cells statics before here behind (instruction cell i c s n) one room
     static_room j f =
@@ -528,8 +528,8 @@ record LinesRead (number : ℕ) (labels : Labels) (image : Segments) (survey : S
     cells = survey.cells + length more;
     statics = survey.statics ++ statics;
   })
-  second : linked number labels code lines ≡ Ok (code ++ more)
-  third : noted number image before lines ≡ Ok behind
+  second : linked_cells number labels code lines ≡ Ok (code ++ more)
+  third : noted_lines number image before lines ≡ Ok behind
 
 same_survey : (l l' : Labels) (c c' : ℕ) (s s' : List ℕ) → l ≡ l' → c ≡ c' → s ≡ s'
     → accepted (record { labels = l; cells = c; statics = s }) ≡ Ok (record { labels = l'; cells = c'; statics = s' })
@@ -545,7 +545,7 @@ lines_read : (labels : Labels) (at : ℕ) (lines : List (List ℕ)) (written : L
     → at ≡ length code → survey.cells ≡ length code → AreNew survey.labels written
     → list_all is_one_to_one more ≡ true → survey.cells + length more ≤ MOST_CELLS
     → length survey.statics + length statics ≤ MOST_STATICS
-    → behind ≡ joined before notes → fits image behind ≡ true
+    → behind ≡ joined_notes before notes → fits image behind ≡ true
     → LinesRead number labels image survey code before lines written more statics behind
 lines_read labels at lines written more statics notes (finish at0) number image survey code before behind at_is count
     new one room static_room j f = record {
@@ -560,9 +560,9 @@ lines_read labels at lines written more statics notes (one_line at0 line rest na
     number image survey code before behind at_is count new one room static_room j f =
     let at_count : at0 ≡ survey.cells = at_is ∙ sym count in
     let no : NoLabels words = item_no_labels labels at0 words cells here notes_here item in
-    let words_are : after_labels (words_of (content_of line)) ≡ words =
+    let words_are : after_labels (line_words (content_of line)) ≡ words =
     rw labeled.written (after_complete names words labeled.are_names no) in
-    let names_are : label_names (words_of (content_of line)) ≡ names =
+    let names_are : label_names (line_words (content_of line)) ≡ names =
     rw labeled.written (names_complete names words labeled.are_names no) in
     let Item_at : ℕ → Type 0 = λ a. ItemText labels a words cells here notes_here in
     let New_at : ℕ → Type 0 = λ a. AreNew survey.labels (placed a names) in
@@ -575,10 +575,10 @@ lines_read labels at lines written more statics notes (one_line at0 line rest na
     let count_statics : length (here ++ after_statics) ≡ length here + length after_statics =
     length-append here after_statics in
     let labeled_survey : Surveyed = record survey { labels = survey.labels ++ placed survey.cells names } in
-    let noted_here : NoteLists = joined before notes_here in
-    let all_notes : behind ≡ joined noted_here after_notes = j ∙ sym (joined_assoc before notes_here after_notes) in
+    let noted_here : NoteLists = joined_notes before notes_here in
+    let all_notes : behind ≡ joined_notes noted_here after_notes = j ∙ sym (joined_assoc before notes_here after_notes) in
     let fit_here : fits image noted_here ≡ true = fits_front image noted_here after_notes
-    (same_fits image behind (joined noted_here after_notes) all_notes f) in
+    (same_fits image behind (joined_notes noted_here after_notes) all_notes f) in
     let read : ItemRead number labels words image labeled_survey code cells here before noted_here =
     item_reads number labels words image labeled_survey code cells here before notes_here noted_here
     (subst Item_at at_is item) ones.0 (omega arith) (omega arith) refl fit_here in
@@ -586,7 +586,7 @@ lines_read labels at lines written more statics notes (one_line at0 line rest na
       cells = survey.cells + length cells;
       statics = survey.statics ++ here;
     } in
-    let step : surveyed_words number survey (words_of (content_of line)) ≡ Ok longer =
+    let step : surveyed_words number survey (line_words (content_of line)) ≡ Ok longer =
     rw (words_are, names_are, read.read, labels_complete number survey.cells survey.labels names new_here) read.counts
     in
     let length_is : length (code ++ cells) ≡ length code + length cells = length-append code cells in
@@ -622,6 +622,6 @@ written_is_read lines n t =
     lines_read t.labels 0 lines t.labels n.image.code n.image.statics n.notes t.written 1 n.image no_lines [] no_notes
     n.notes refl refl t.are_new
     (all_one_to_one n.image.code i.is_code.cells) (omega arith) (omega arith) refl t.is_fit in
-    let third : noted 1 (record { code = n.image.code; statics = n.image.statics }) no_notes lines ≡ Ok n.notes =
+    let third : noted_lines 1 (record { code = n.image.code; statics = n.image.statics }) no_notes lines ≡ Ok n.notes =
     read.third in
     rw (read.first, read.second, i.one_start, i.one_finish, third) refl

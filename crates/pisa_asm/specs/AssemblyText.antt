@@ -12,9 +12,9 @@ use Rattle.pisa_isa.specs.Image.{IsImage}
 use Rattle.pisa_isa.specs.Notes.{NoteLists, NotedImage, no_notes, is_name as is_field_name, fits}
 use Rattle.pisa_asm.specs.declared.operand.Last.{Last}
 use Rattle.pisa_asm.specs.declared.operand.Last.TheVariants.{Nothing, Word, Amount, Offset}
-use Rattle.pisa_asm.specs.Lines.{content_of, words_of}
-use Rattle.pisa_asm.specs.LabelNames.{is_name, Labels, place_of}
-use Rattle.pisa_asm.specs.Mnemonics.{mnemonic, static_word, mark_word, name_word}
+use Rattle.pisa_asm.specs.Lines.{content_of, line_words}
+use Rattle.pisa_asm.specs.LabelNames.{is_label_name, Labels, label_address}
+use Rattle.pisa_asm.specs.Mnemonics.{mnemonic, static_mnemonic, mark_word, name_word}
 use Rattle.pisa_asm.specs.Operands.{last_of}
 
 -- decimal digits with an optional sign, for a number that is at least -low and below `end`, and its
@@ -41,7 +41,7 @@ RegisterWords true words r = (word : List ℕ) × (words ≡ word ∷ []) × Reg
 -- an offset: a number, or a label's name, which means its code address minus this one
 pub data OffsetText (labels : Labels) (at : ℕ) (bytes : List ℕ) (offset : ℕ) : Type 0 where
   by_number : NumberText (2 ^ 31) (2 ^ 31) bytes offset → OffsetText labels at bytes offset
-  by_label : (place : ℕ) → is_name bytes ≡ true → place_of bytes labels ≡ Some place
+  by_label : (place : ℕ) → is_label_name bytes ≡ true → label_address bytes labels ≡ Some place
       → offset ≡ difference_of place at → OffsetText labels at bytes offset
 
 -- the words for what an instruction has after its registers
@@ -98,8 +98,8 @@ abbrev pub one_name : FieldName → NoteLists
 one_name n = record { marks = []; names = n ∷ [] }
 
 -- notes, and after them those of others
-abbrev pub joined : NoteLists → NoteLists → NoteLists
-joined before behind =
+abbrev pub joined_notes : NoteLists → NoteLists → NoteLists
+joined_notes before behind =
     record { marks = before.marks ++ behind.marks; names = before.names ++ behind.names }
 
 -- nothing, an instruction, STATIC and a word, MARK and three numbers, or NAME, a number and a name
@@ -109,7 +109,7 @@ pub data ItemText (labels : Labels) (at : ℕ) (words : List (List ℕ)) (code :
       → ItemText labels at words code statics notes
   instruction : (cell : Cell) → InstructionText labels at words cell → code ≡ cell ∷ []
       → statics ≡ [] → notes ≡ no_notes → ItemText labels at words code statics notes
-  static : (word : List ℕ) (n : ℕ) → words ≡ static_word ∷ word ∷ []
+  static : (word : List ℕ) (n : ℕ) → words ≡ static_mnemonic ∷ word ∷ []
       → NumberText (2 ^ 31) (2 ^ 32) word n → code ≡ [] → statics ≡ n ∷ [] → notes ≡ no_notes
       → ItemText labels at words code statics notes
   marked : (m : Mark) → MarkText words m → code ≡ [] → statics ≡ [] → notes ≡ one_mark m
@@ -123,8 +123,8 @@ label_word name = name ++ 58 ∷ []
 
 -- a line has labels and then other words, except for a carriage return at its end and a comment
 pub record LabeledLine (line : List ℕ) (names words : List (List ℕ)) : Type 0 where
-  pub are_names : All (λ name. is_name name ≡ true) names
-  pub written : words_of (content_of line) ≡ map label_word names ++ words
+  pub are_names : All (λ name. is_label_name name ≡ true) names
+  pub written : line_words (content_of line) ≡ map label_word names ++ words
 
 -- lines, the first of which has this code address for its cell, write these labels, code cells,
 -- static words and notes
@@ -137,12 +137,12 @@ pub data LinesText (labels : Labels) : (at : ℕ) (lines : List (List ℕ)) (wri
       → ItemText labels at words cells words_here notes_here
       → LinesText labels (at + length cells) lines written code statics notes
       → LinesText labels at (line ∷ lines) (map (λ name. (name, at)) names ++ written)
-      (cells ++ code) (words_here ++ statics) (joined notes_here notes)
+      (cells ++ code) (words_here ++ statics) (joined_notes notes_here notes)
 
 -- each label is none of those before it
 abbrev pub AreNew : (before labels : Labels) → Type 0
 AreNew before [] = Unit {0}
-AreNew before (label ∷ labels) = (place_of label.0 before ≡ None)
+AreNew before (label ∷ labels) = (label_address label.0 before ≡ None)
     × AreNew (before ++ label ∷ []) labels
 
 -- the lines write the image and notes that fit it, with labels all of whose names differ

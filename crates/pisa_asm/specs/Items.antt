@@ -11,7 +11,7 @@ use Rattle.pisa_asm.specs.declared.error.AsmError.TheVariants.{UnknownMnemonic}
 use Rattle.pisa_asm.specs.declared.item.Item.{Item}
 use Rattle.pisa_asm.specs.declared.item.Item.TheVariants.{Nothing, Code, Static, Marked, Named}
 use Rattle.pisa_asm.specs.Numerals.{word_number, unsigned_number}
-use Rattle.pisa_asm.specs.Mnemonics.{row_named, static_word, mark_word, name_word}
+use Rattle.pisa_asm.specs.Mnemonics.{row_named, static_mnemonic, mark_word, name_word}
 use Rattle.pisa_asm.specs.Chain.{and_then, or_bad}
 use Rattle.pisa_asm.specs.Operands.{sole, given_from}
 
@@ -43,7 +43,7 @@ name_from words = option_and_then (λ cell. option_and_then (name_of cell.0) (so
 -- what a first word that is no mnemonic begins
 abbrev pub other_item : ℕ → List ℕ → List (List ℕ) → Result Item AsmError
 other_item line first words =
-    if bytes_eq first static_word then and_then (or_bad line (static_from words))
+    if bytes_eq first static_mnemonic then and_then (or_bad line (static_from words))
     (λ word. Ok (Static word))
     else (if bytes_eq first mark_word then and_then (or_bad line (mark_from words))
     (λ mark. Ok (Marked mark))

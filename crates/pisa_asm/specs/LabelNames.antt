@@ -14,13 +14,13 @@ begins_name b = is_ascii_alphabetic b || b == 95
 abbrev pub is_label_byte : ℕ → Bool
 is_label_byte b = is_ascii_alphabetic b || is_ascii_digit b || b == 95
 
-abbrev pub is_name : List ℕ → Bool
-is_name [] = false
-is_name (first ∷ rest) = begins_name first && list_all is_label_byte rest
+abbrev pub is_label_name : List ℕ → Bool
+is_label_name [] = false
+is_label_name (first ∷ rest) = begins_name first && list_all is_label_byte rest
 
 -- a name followed directly by `:`
 abbrev pub is_label : List ℕ → Bool
-is_label word = ends_in 58 word && is_name (all_but_last word)
+is_label word = ends_in 58 word && is_label_name (all_but_last word)
 
 -- the names of the labels at the beginning of a line's words
 abbrev pub label_names : List (List ℕ) → List (List ℕ)
@@ -37,7 +37,7 @@ abbrev pub Labels : Type 0
 Labels = List (List ℕ × ℕ)
 
 -- the code address of a label
-abbrev pub place_of : List ℕ → Labels → Option ℕ
-place_of name [] = None
-place_of name (label ∷ labels) = if bytes_eq name label.0 then Some label.1 else place_of name
+abbrev pub label_address : List ℕ → Labels → Option ℕ
+label_address name [] = None
+label_address name (label ∷ labels) = if bytes_eq name label.0 then Some label.1 else label_address name
     labels

@@ -30,15 +30,15 @@ abbrev pub content_of : List ℕ → List ℕ
 content_of line = before_first (λ b. b == 59) (without_return line)
 
 -- space and tab
-abbrev pub is_blank : ℕ → Bool
-is_blank b = b == 32 || b == 9
+abbrev pub is_blank_byte : ℕ → Bool
+is_blank_byte b = b == 32 || b == 9
 
 abbrev pub begins_word : List ℕ → Bool
 begins_word [] = false
-begins_word (b ∷ rest) = not (is_blank b)
+begins_word (b ∷ rest) = not (is_blank_byte b)
 
 -- what is between blanks
-abbrev pub words_of : List ℕ → List (List ℕ)
-words_of [] = []
-words_of (b ∷ rest) = if is_blank b then words_of rest
-    else (if begins_word rest then onto_first b (words_of rest) else (b ∷ []) ∷ words_of rest)
+abbrev pub line_words : List ℕ → List (List ℕ)
+line_words [] = []
+line_words (b ∷ rest) = if is_blank_byte b then line_words rest
+    else (if begins_word rest then onto_first b (line_words rest) else (b ∷ []) ∷ line_words rest)

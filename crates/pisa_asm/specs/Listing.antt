@@ -9,7 +9,7 @@ use Rattle.pisa_isa.specs.declared.notes.FieldName.{FieldName}
 use Rattle.pisa_isa.specs.Notes.{NotedImage}
 use Rattle.pisa_asm.specs.declared.operand.Last.{Last}
 use Rattle.pisa_asm.specs.declared.operand.Last.TheVariants.{Nothing, Word, Amount, Offset}
-use Rattle.pisa_asm.specs.Mnemonics.{mnemonic, static_word, mark_word, name_word}
+use Rattle.pisa_asm.specs.Mnemonics.{mnemonic, static_mnemonic, mark_word, name_word}
 use Rattle.pisa_asm.specs.Operands.{last_of}
 
 -- a word in signed decimal
@@ -41,7 +41,7 @@ cell_text c =
 
 -- the line of a static word, without its line feed
 abbrev pub static_text : ℕ → List ℕ
-static_text word = static_word ++ 32 ∷ signed_text word
+static_text word = static_mnemonic ++ 32 ∷ signed_text word
 
 -- a number after a space
 abbrev pub number_text : ℕ → List ℕ

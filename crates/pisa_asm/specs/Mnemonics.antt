@@ -61,8 +61,8 @@ abbrev pub row_named : List ℕ → Option Op
 row_named word = row_among rows word
 
 -- the word that begins a static word's line
-abbrev pub static_word : List ℕ
-static_word = codes "STATIC"
+abbrev pub static_mnemonic : List ℕ
+static_mnemonic = codes "STATIC"
 
 -- the word that begins a mark's line
 abbrev pub mark_word : List ℕ

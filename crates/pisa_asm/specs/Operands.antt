@@ -14,7 +14,7 @@ use Rattle.pisa_asm.specs.declared.operand.Operand.{Operand}
 use Rattle.pisa_asm.specs.declared.operand.Operand.TheVariants.{Number, Label}
 use Rattle.pisa_asm.specs.declared.operand.Given.{Given}
 use Rattle.pisa_asm.specs.Numerals.{register_number, word_number, amount_number, offset_number}
-use Rattle.pisa_asm.specs.LabelNames.{is_name}
+use Rattle.pisa_asm.specs.LabelNames.{is_label_name}
 
 -- what an instruction has after its registers
 abbrev pub last_of : Op → Last
@@ -54,7 +54,7 @@ registers_from op words =
 
 -- an offset is a number or a label's name
 abbrev pub offset_from : List ℕ → Option Operand
-offset_from word = if is_name word then Some (Label word) else option_map Number
+offset_from word = if is_label_name word then Some (Label word) else option_map Number
     (offset_number word)
 
 -- the only word

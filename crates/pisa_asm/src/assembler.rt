@@ -4,7 +4,7 @@ ghost use Rattle.pisa_isa.specs.Table.{IsCell};
 ghost use Rattle.pisa_asm.specs.Chain.{Refuses};
 ghost use Rattle.pisa_asm.specs.AssemblyText.{AssemblyText};
 ghost use Rattle.pisa_asm.specs.Lines.{lines_of};
-ghost use Rattle.pisa_asm.specs.Passes.{sealed, noted_of_text};
+ghost use Rattle.pisa_asm.specs.Passes.{sealed_image, noted_of_text};
 
 use crate::error::AsmError;
 use crate::link::link;
@@ -23,8 +23,8 @@ fn seal(code: Vec<Cell>, statics: Vec<u32>) -> Result<Image, AsmError>
     requires statics_in_limit { vec_len statics ≤ MOST_STATICS }
     requires cells { All IsCell code.items }
     ensures { MatchResult result
-        (λ image. sealed code.items statics.items ≡ Ok image)
-        (λ refusal. sealed code.items statics.items ≡ Err refusal) }
+        (λ image. sealed_image code.items statics.items ≡ Ok image)
+        (λ refusal. sealed_image code.items statics.items ≡ Err refusal) }
 {
     match Image::seal(code, statics) {
         Ok(image) => Ok(image),

@@ -1,7 +1,7 @@
 // What is on a line after its labels.
 ghost use Rattle.std.specs.Prelude.{◌≡◌, MatchOption, MatchResult, None, Ok, Some};
 ghost use Rattle.pisa_asm.specs.Chain.{or_bad, Refuses};
-ghost use Rattle.pisa_asm.specs.Lines.{words_of};
+ghost use Rattle.pisa_asm.specs.Lines.{line_words};
 ghost use Rattle.pisa_asm.specs.Items.{static_from, unsigned_from, mark_from, name_from, item_from, other_item};
 
 use crate::error::AsmError;
@@ -29,7 +29,7 @@ pub enum Item {
 
 /// The number after STATIC.
 fn static_from(words: &[u8]) -> Option<u32>
-    ensures { result ≡ static_from (words_of words.now) }
+    ensures { result ≡ static_from (line_words words.now) }
 {
     match sole_word(words) {
         None => None,
@@ -39,8 +39,8 @@ fn static_from(words: &[u8]) -> Option<u32>
 
 /// The number that the first word writes, and what follows it.
 fn unsigned_from(words: &[u8]) -> Option<(u32, &[u8])>
-    ensures { MatchOption result (unsigned_from (words_of words.now) ≡ None)
-        (λ p. unsigned_from (words_of words.now) ≡ Some (p.0, words_of p.1.now)) }
+    ensures { MatchOption result (unsigned_from (line_words words.now) ≡ None)
+        (λ p. unsigned_from (line_words words.now) ≡ Some (p.0, line_words p.1.now)) }
 {
     match next_word(words) {
         None => None,
@@ -53,7 +53,7 @@ fn unsigned_from(words: &[u8]) -> Option<(u32, &[u8])>
 
 /// The mark after MARK: its first cell, its end and its offset.
 fn mark_from(words: &[u8]) -> Option<Mark>
-    ensures { result ≡ mark_from (words_of words.now) }
+    ensures { result ≡ mark_from (line_words words.now) }
 {
     let (first, words) = unsigned_from(words)?;
     let (end, words) = unsigned_from(words)?;
@@ -64,8 +64,8 @@ fn mark_from(words: &[u8]) -> Option<Mark>
 /// The name after NAME: its data cell and its bytes.
 fn name_from(alloc: Global, words: &[u8], line: u32) -> Result<FieldName, AsmError>
     ensures { MatchResult result
-        (λ name. or_bad line (name_from (words_of words.now)) ≡ Ok name)
-        (Refuses (or_bad line (name_from (words_of words.now)))) }
+        (λ name. or_bad line (name_from (line_words words.now)) ≡ Ok name)
+        (Refuses (or_bad line (name_from (line_words words.now)))) }
 {
     match unsigned_from(words) {
         None => Err(AsmError::BadLine { line }),
@@ -85,8 +85,8 @@ fn name_from(alloc: Global, words: &[u8], line: u32) -> Result<FieldName, AsmErr
 /// What a first word that is no mnemonic begins.
 fn other_item(alloc: Global, first: &[u8], rest: &[u8], line: u32) -> Result<Item, AsmError>
     ensures { MatchResult result
-        (λ item. other_item line first.now (words_of rest.now) ≡ Ok item)
-        (Refuses (other_item line first.now (words_of rest.now))) }
+        (λ item. other_item line first.now (line_words rest.now) ≡ Ok item)
+        (Refuses (other_item line first.now (line_words rest.now))) }
 {
     if first == b"STATIC".as_slice() {
         return match static_from(rest) {
@@ -109,8 +109,8 @@ fn other_item(alloc: Global, first: &[u8], rest: &[u8], line: u32) -> Result<Ite
 /// What follows the labels of a line, given all the words that do.
 pub fn item_from(alloc: Global, behind: &[u8], line: u32) -> Result<Item, AsmError>
     ensures { MatchResult result
-        (λ item. item_from line (words_of behind.now) ≡ Ok item)
-        (Refuses (item_from line (words_of behind.now))) }
+        (λ item. item_from line (line_words behind.now) ≡ Ok item)
+        (Refuses (item_from line (line_words behind.now))) }
 {
     match next_word(behind) {
         None => Ok(Item::Nothing),

@@ -2,8 +2,8 @@
 ghost use Rattle.std.specs.Prelude.{◌≡◌, ◌≢◌, ◌<◌, MatchResult, Ok, Err};
 ghost use Rattle.std.specs.List.{list_all};
 ghost use Rattle.pisa_asm.specs.Chain.{Refuses};
-ghost use Rattle.pisa_asm.specs.Lines.{words_of};
-ghost use Rattle.pisa_asm.specs.LabelNames.{begins_name, is_label_byte, is_name, is_label, label_names, after_labels, place_of};
+ghost use Rattle.pisa_asm.specs.Lines.{line_words};
+ghost use Rattle.pisa_asm.specs.LabelNames.{begins_name, is_label_byte, is_label_name, is_label, label_names, after_labels, label_address};
 ghost use Rattle.pisa_asm.specs.Passes.{label_at, labels_at};
 
 use crate::error::AsmError;
@@ -35,7 +35,7 @@ fn are_label_bytes(bytes: &[u8]) -> bool
 
 /// Whether a word is a name.
 pub fn is_name(word: &[u8]) -> bool
-    ensures { result ≡ is_name word.now }
+    ensures { result ≡ is_label_name word.now }
 {
     match word {
         [] => false,
@@ -52,7 +52,7 @@ fn is_label(word: &[u8]) -> bool
 
 /// What follows the labels of a line.
 pub fn after_labels(line: &[u8]) -> &[u8]
-    ensures { words_of result.now ≡ after_labels (words_of line.now) }
+    ensures { line_words result.now ≡ after_labels (line_words line.now) }
 {
     let mut rest = line;
     while let Some((word, behind)) = next_word(rest) {
@@ -73,10 +73,10 @@ fn note_label(
     line: u32,
 ) -> Result<(), AsmError>
     ensures { MatchResult result
-        (λ _. label_at line name.now place labels.old.entries (place_of name.now labels.old.entries)
+        (λ _. label_at line name.now place labels.old.entries (label_address name.now labels.old.entries)
         ≡ Ok labels.new.entries)
         (Refuses (label_at line name.now place labels.old.entries
-        (place_of name.now labels.old.entries))) }
+        (label_address name.now labels.old.entries))) }
 {
     match labels.insert(Text::of(alloc, name)?, place)? {
         None => Ok(()),
@@ -93,9 +93,9 @@ pub fn note_labels(
     line: u32,
 ) -> Result<(), AsmError>
     ensures { MatchResult result
-        (λ _. labels_at line place labels.old.entries (label_names (words_of content.now))
+        (λ _. labels_at line place labels.old.entries (label_names (line_words content.now))
         ≡ Ok labels.new.entries)
-        (Refuses (labels_at line place labels.old.entries (label_names (words_of content.now)))) }
+        (Refuses (labels_at line place labels.old.entries (label_names (line_words content.now)))) }
 {
     let mut rest = content;
     while let Some((word, behind)) = next_word(rest) {
@@ -110,7 +110,7 @@ pub fn note_labels(
 
 /// The code address of the label of this name.
 pub fn place_of(labels: &IndexMap<Text, u32>, name: &Text) -> Option<u32>
-    ensures { result ≡ place_of name.now labels.now.entries }
+    ensures { result ≡ label_address name.now labels.now.entries }
 {
     labels.get(name).copied()
 }

@@ -1,7 +1,7 @@
 // Lines and words.
 ghost use Rattle.std.specs.Prelude.{◌≡◌, ◌<◌, ◌≤◌, ◌∷◌, [], length, drop, nat_eq, MatchOption};
 ghost use Rattle.std.specs.List.{prefix_len, position_or_len};
-ghost use Rattle.pisa_asm.specs.Lines.{lines_of, content_of, without_return, words_of, is_blank, ends_in, all_but_last};
+ghost use Rattle.pisa_asm.specs.Lines.{lines_of, content_of, without_return, line_words, is_blank_byte, ends_in, all_but_last};
 
 /// How many bytes come before the first line feed, or in all.
 #[tactic(auto, using(std::proofs::lemmas::List::Sums::prefix_len_is))]
@@ -100,7 +100,7 @@ pub fn content(line: &[u8]) -> &[u8]
 
 /// Whether a byte is a space or a tab.
 fn is_blank(byte: u8) -> bool
-    ensures { result ≡ is_blank byte }
+    ensures { result ≡ is_blank_byte byte }
 {
     byte == b' ' || byte == b'\t'
 }
@@ -108,7 +108,7 @@ fn is_blank(byte: u8) -> bool
 /// How many blanks are at the beginning.
 #[tactic(auto, using(std::proofs::lemmas::List::Sums::prefix_len_is))]
 fn blank_len(line: &[u8]) -> usize
-    ensures length { result ≡ prefix_len is_blank line.now }
+    ensures length { result ≡ prefix_len is_blank_byte line.now }
     ensures within { result ≤ length line.now }
 {
     for (i, byte) in line.iter().enumerate() {
@@ -122,7 +122,7 @@ fn blank_len(line: &[u8]) -> usize
 /// How many bytes come before the first blank, or in all.
 #[tactic(auto, using(std::proofs::lemmas::List::Sums::prefix_len_is))]
 fn word_len(line: &[u8]) -> usize
-    ensures length { result ≡ position_or_len is_blank line.now }
+    ensures length { result ≡ position_or_len is_blank_byte line.now }
     ensures within { result ≤ length line.now }
 {
     for (i, byte) in line.iter().enumerate() {
@@ -135,8 +135,8 @@ fn word_len(line: &[u8]) -> usize
 
 /// The first word, and what follows it; none if only blanks are left.
 pub fn next_word(line: &[u8]) -> Option<(&[u8], &[u8])>
-    ensures { MatchOption result (words_of line.now ≡ [])
-        (λ p. (words_of line.now ≡ p.0.now ∷ words_of p.1.now)
+    ensures { MatchOption result (line_words line.now ≡ [])
+        (λ p. (line_words line.now ≡ p.0.now ∷ line_words p.1.now)
         × (length p.1.now < length line.now)) }
 {
     let line = behind(line, blank_len(line));

@@ -2,10 +2,10 @@
 ghost use Rattle.std.specs.Prelude.{◌≡◌, ◌≤◌, ◌<◌, ◌^◌, ◌+◌, length, vec_len, [], MatchResult, Ok};
 ghost use Rattle.pisa_asm.specs.declared.assembler.TheConstants.{MOST_TEXT};
 ghost use Rattle.pisa_asm.specs.Chain.{Refuses, and_then};
-ghost use Rattle.pisa_asm.specs.Lines.{lines_of, content_of, words_of};
+ghost use Rattle.pisa_asm.specs.Lines.{lines_of, content_of, line_words};
 ghost use Rattle.pisa_asm.specs.LabelNames.{after_labels};
 ghost use Rattle.pisa_asm.specs.Items.{item_from};
-ghost use Rattle.pisa_asm.specs.Passes.{resolved, linked_item, linked};
+ghost use Rattle.pisa_asm.specs.Passes.{resolved_cell, linked_item, linked_cells};
 
 use crate::assembler::MOST_TEXT;
 use crate::error::AsmError;
@@ -20,7 +20,7 @@ use std::alloc::Global;
 
 /// An instruction at a code address, with its offset if a label gives it.
 fn resolved(survey: &Survey, at: u32, given: &Given) -> Option<Cell>
-    ensures { result ≡ resolved survey.now.labels at given.now }
+    ensures { result ≡ resolved_cell survey.now.labels at given.now }
 {
     match &given.target {
         None => Some(given.cell),
@@ -58,8 +58,8 @@ fn add_item(survey: &Survey, code: &mut Vec<Cell>, item: &Item, line: u32) -> Re
 pub fn link(alloc: Global, survey: &Survey, text: &[u8]) -> Result<Vec<Cell>, AsmError>
     requires { length text.now ≤ MOST_TEXT }
     ensures { MatchResult result
-        (λ code. linked 1 survey.now.labels [] (lines_of text.now) ≡ Ok code.items)
-        (Refuses (linked 1 survey.now.labels [] (lines_of text.now))) }
+        (λ code. linked_cells 1 survey.now.labels [] (lines_of text.now) ≡ Ok code.items)
+        (Refuses (linked_cells 1 survey.now.labels [] (lines_of text.now))) }
 {
     let mut code = Vec::new(alloc);
     let mut rest = text;

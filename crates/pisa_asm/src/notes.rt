@@ -4,7 +4,7 @@ ghost use Rattle.pisa_isa.specs.Notes.{no_notes, fits};
 ghost use Rattle.pisa_asm.specs.declared.assembler.TheConstants.{MOST_TEXT};
 ghost use Rattle.pisa_asm.specs.Chain.{Refuses};
 ghost use Rattle.pisa_asm.specs.Lines.{lines_of};
-ghost use Rattle.pisa_asm.specs.Passes.{with_mark, with_name, if_fits, noted_item, noted};
+ghost use Rattle.pisa_asm.specs.Passes.{with_mark, with_field_name, if_fits, noted_item, noted_lines};
 
 use crate::assembler::MOST_TEXT;
 use crate::error::AsmError;
@@ -34,8 +34,8 @@ fn with_mark(image: &Image, notes: Notes, mark: Mark, line: u32) -> Result<Notes
 /// Notes, followed by a name.
 fn with_name(image: &Image, notes: Notes, name: FieldName, line: u32) -> Result<Notes, AsmError>
     ensures { MatchResult result
-        (λ longer. if_fits line image.now (with_name notes name) ≡ Ok longer)
-        (Refuses (if_fits line image.now (with_name notes name))) }
+        (λ longer. if_fits line image.now (with_field_name notes name) ≡ Ok longer)
+        (Refuses (if_fits line image.now (with_field_name notes name))) }
 {
     let Notes { marks, mut names } = notes;
     names.push(name)?;
@@ -66,8 +66,8 @@ fn with_item(image: &Image, notes: Notes, item: Item, line: u32) -> Result<Notes
 pub fn notes_of(alloc: Global, image: &Image, text: &[u8]) -> Result<Notes, AsmError>
     requires { length text.now ≤ MOST_TEXT }
     ensures noted { MatchResult result
-        (λ notes. noted 1 image.now no_notes (lines_of text.now) ≡ Ok notes)
-        (Refuses (noted 1 image.now no_notes (lines_of text.now))) }
+        (λ notes. noted_lines 1 image.now no_notes (lines_of text.now) ≡ Ok notes)
+        (Refuses (noted_lines 1 image.now no_notes (lines_of text.now))) }
     ensures fit { IfOk result (λ notes. IsTrue (fits image.now notes)) }
 {
     let mut notes = Notes {

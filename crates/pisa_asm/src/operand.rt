@@ -5,7 +5,7 @@ ghost use Rattle.pisa_isa.specs.Table.{has_a, has_b, c_is_source};
 ghost use Rattle.pisa_asm.specs.declared.operand.Last.TheVariants.{Offset};
 ghost use Rattle.pisa_asm.specs.declared.operand.Operand.TheVariants.{Number};
 ghost use Rattle.pisa_asm.specs.Chain.{or_bad, Refuses};
-ghost use Rattle.pisa_asm.specs.Lines.{words_of};
+ghost use Rattle.pisa_asm.specs.Lines.{line_words};
 ghost use Rattle.pisa_asm.specs.Operands.{last_of, register_from, registers_from, sole, no_operand, operand_from, with_operand, given_from};
 
 use crate::error::AsmError;
@@ -85,8 +85,8 @@ pub fn has_registers(op: Op) -> (bool, bool, bool)
 
 /// The register that the first word names, if the instruction has one here, and what follows it.
 fn register_from(has: bool, words: &[u8]) -> Option<(u8, &[u8])>
-    ensures { MatchOption result (register_from has (words_of words.now) ≡ None)
-        (λ p. register_from has (words_of words.now) ≡ Some (p.0, words_of p.1.now)) }
+    ensures { MatchOption result (register_from has (line_words words.now) ≡ None)
+        (λ p. register_from has (line_words words.now) ≡ Some (p.0, line_words p.1.now)) }
 {
     if !has {
         return Some((0, words));
@@ -102,8 +102,8 @@ fn register_from(has: bool, words: &[u8]) -> Option<(u8, &[u8])>
 
 /// The registers of an instruction, and what follows them.
 fn registers_from(op: Op, words: &[u8]) -> Option<(Cell, &[u8])>
-    ensures { MatchOption result (registers_from op (words_of words.now) ≡ None)
-        (λ p. registers_from op (words_of words.now) ≡ Some (p.0, words_of p.1.now)) }
+    ensures { MatchOption result (registers_from op (line_words words.now) ≡ None)
+        (λ p. registers_from op (line_words words.now) ≡ Some (p.0, line_words p.1.now)) }
 {
     let (has_a, has_b, has_c) = has_registers(op);
     let (a, words) = register_from(has_a, words)?;
@@ -123,8 +123,8 @@ fn registers_from(op: Op, words: &[u8]) -> Option<(Cell, &[u8])>
 
 /// The only word.
 pub fn sole_word(words: &[u8]) -> Option<&[u8]>
-    ensures { MatchOption result (sole (words_of words.now) ≡ None)
-        (λ word. sole (words_of words.now) ≡ Some word.now) }
+    ensures { MatchOption result (sole (line_words words.now) ≡ None)
+        (λ word. sole (line_words words.now) ≡ Some word.now) }
 {
     match next_word(words) {
         None => None,
@@ -137,7 +137,7 @@ pub fn sole_word(words: &[u8]) -> Option<&[u8]>
 
 /// The operand of an instruction that has none.
 fn no_operand(words: &[u8]) -> Option<u32>
-    ensures { option_map Number result ≡ no_operand (words_of words.now) }
+    ensures { option_map Number result ≡ no_operand (line_words words.now) }
 {
     match next_word(words) {
         None => Some(0),
@@ -148,7 +148,7 @@ fn no_operand(words: &[u8]) -> Option<u32>
 /// The last operand of an instruction, if it is no offset.
 fn number_from(last: Last, words: &[u8]) -> Option<u32>
     requires { last ≢ Offset }
-    ensures { option_map Number result ≡ operand_from last (words_of words.now) }
+    ensures { option_map Number result ≡ operand_from last (line_words words.now) }
 {
     match last {
         Last::Nothing => no_operand(words),
@@ -176,8 +176,8 @@ fn number_or_bad(number: Option<u32>, line: u32) -> Result<Operand, AsmError>
 /// An offset: a number or a label's name.
 fn offset_from(alloc: Global, words: &[u8], line: u32) -> Result<Operand, AsmError>
     ensures { MatchResult result
-        (λ operand. or_bad line (operand_from Offset (words_of words.now)) ≡ Ok operand)
-        (Refuses (or_bad line (operand_from Offset (words_of words.now)))) }
+        (λ operand. or_bad line (operand_from Offset (line_words words.now)) ≡ Ok operand)
+        (Refuses (or_bad line (operand_from Offset (line_words words.now)))) }
 {
     match sole_word(words) {
         None => Err(AsmError::BadLine { line }),
@@ -194,8 +194,8 @@ fn offset_from(alloc: Global, words: &[u8], line: u32) -> Result<Operand, AsmErr
 /// The last operand of an instruction.
 fn operand_from(alloc: Global, last: Last, words: &[u8], line: u32) -> Result<Operand, AsmError>
     ensures { MatchResult result
-        (λ operand. or_bad line (operand_from last (words_of words.now)) ≡ Ok operand)
-        (Refuses (or_bad line (operand_from last (words_of words.now)))) }
+        (λ operand. or_bad line (operand_from last (line_words words.now)) ≡ Ok operand)
+        (Refuses (or_bad line (operand_from last (line_words words.now)))) }
 {
     match last {
         Last::Offset => offset_from(alloc, words, line),
@@ -222,8 +222,8 @@ fn with_operand(cell: Cell, operand: Operand) -> Given
 /// The instruction of a mnemonic's row with these operands.
 pub fn given_from(alloc: Global, op: Op, words: &[u8], line: u32) -> Result<Given, AsmError>
     ensures { MatchResult result
-        (λ given. or_bad line (given_from op (words_of words.now)) ≡ Ok given)
-        (Refuses (or_bad line (given_from op (words_of words.now)))) }
+        (λ given. or_bad line (given_from op (line_words words.now)) ≡ Ok given)
+        (Refuses (or_bad line (given_from op (line_words words.now)))) }
 {
     match registers_from(op, words) {
         None => Err(AsmError::BadLine { line }),

@@ -2,9 +2,9 @@
 ghost use Rattle.std.specs.Prelude.{◌≡◌, ◌≤◌, length, MatchResult, Ok, option_map};
 ghost use Rattle.pisa_asm.specs.declared.assembler.TheConstants.{MOST_TEXT};
 ghost use Rattle.pisa_asm.specs.Chain.{Refuses};
-ghost use Rattle.pisa_asm.specs.Lines.{lines_of, content_of, words_of};
-ghost use Rattle.pisa_asm.specs.LabelNames.{place_of};
-ghost use Rattle.pisa_asm.specs.Passes.{Surveyed, no_lines, counted, surveyed_words, surveyed};
+ghost use Rattle.pisa_asm.specs.Lines.{lines_of, content_of, line_words};
+ghost use Rattle.pisa_asm.specs.LabelNames.{label_address};
+ghost use Rattle.pisa_asm.specs.Passes.{Surveyed, no_lines, counted_item, surveyed_words, surveyed};
 
 use crate::assembler::MOST_TEXT;
 use crate::error::AsmError;
@@ -51,7 +51,7 @@ impl Survey {
 
     /// The code address of the label of this name.
     pub fn place_of(&self, name: &Text) -> Option<u32>
-        ensures { result ≡ place_of name.now self.now.labels }
+        ensures { result ≡ label_address name.now self.now.labels }
     {
         place_of(&self.labels, name)
     }
@@ -66,8 +66,8 @@ impl Survey {
     /// Counts what follows the labels of a line.
     fn count(&mut self, item: &Item, line: u32) -> Result<(), AsmError>
         ensures { MatchResult result
-            (λ _. counted line self.old item.now ≡ Ok self.new)
-            (Refuses (counted line self.old item.now)) }
+            (λ _. counted_item line self.old item.now ≡ Ok self.new)
+            (Refuses (counted_item line self.old item.now)) }
     {
         match item {
             Item::Nothing | Item::Marked(_) | Item::Named(_) => Ok(()),
@@ -94,8 +94,8 @@ impl Survey {
     /// Adds a line.
     fn add_line(&mut self, alloc: Global, text: &[u8], line: u32) -> Result<(), AsmError>
         ensures { MatchResult result
-            (λ _. surveyed_words line self.old (words_of (content_of text.now)) ≡ Ok self.new)
-            (Refuses (surveyed_words line self.old (words_of (content_of text.now)))) }
+            (λ _. surveyed_words line self.old (line_words (content_of text.now)) ≡ Ok self.new)
+            (Refuses (surveyed_words line self.old (line_words (content_of text.now)))) }
     {
         let content = content(text);
         let item = item_from(alloc, after_labels(content), line)?;

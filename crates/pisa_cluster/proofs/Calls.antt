@@ -10,9 +10,9 @@ use Rattle.pisa_isa.specs.Machine.{IsNext, stop, next}
 use Rattle.pisa_isa.proofs.Keeps.{IsNext-next}
 use Rattle.pisa_cluster.specs.declared.processor.Processor.{Processor}
 use Rattle.pisa_cluster.specs.declared.processor.Kept.{Kept}
-use Rattle.pisa_cluster.specs.Replay.{Joint, processor_at, seen, in_state, touches, step_of, cstep, replay, makers}
+use Rattle.pisa_cluster.specs.Replay.{Joint, processor_at, processor_state, in_state, touches, step_of, cstep, replay, makers}
 use Rattle.pisa_cluster.specs.Replay.{start_of_joint}
-use Rattle.pisa_cluster.specs.Schedules.{Schedule, IsCluster, IsMade, IsAtStop, LastOf, next_touch, IsFree, IsTakenBack}
+use Rattle.pisa_cluster.specs.Schedules.{Schedule, IsCluster, IsStepMade, IsAtStop, LastOf, next_touch, IsFree, IsTakenBack}
 use Rattle.pisa_cluster.specs.Schedules.{IsBlocked, rewound}
 use Rattle.pisa_cluster.proofs.Commuting.{slice_get-set_same, set_there}
 use Rattle.pisa_cluster.proofs.Undoing.{made, Back, free_step, drop_next, removed, found_at, replayed-start}
@@ -41,16 +41,16 @@ at_number s who p low there = subst (λ n. processor_at s n ≡ Some p) (sym (nu
 -- a step of a processor that is no stop
 pub record MadeBy (c d : Schedule) (who : ℕ) : Type 0 where
   pub cluster : IsCluster d
-  pub is_made : IsMade who c.next_serial c d
+  pub is_made : IsStepMade who c.next_serial c d
 
 pub made_by : (c : Schedule) (who : ℕ) (first p after : Processor) (cells : List ℕ) (touched : Option ℕ)
     (kept : List Kept)
     → 1 ≤ who → who ≤ length c.joint.processors
     → first ≡ get_or c.joint.processors (who - 1) first → p ≡ get_or c.joint.processors (who - 1) p
     → touched ≡ touches first → kept ≡ c.kept ++ record { serial = c.next_serial; who = who; touched = touched } ∷ []
-    → None ≡ stop p.image.code (seen p c.joint.cells)
-    → after ≡ in_state p (next p.image.code (seen p c.joint.cells))
-    → cells ≡ (next p.image.code (seen p c.joint.cells)).cells
+    → None ≡ stop p.image.code (processor_state p c.joint.cells)
+    → after ≡ in_state p (next p.image.code (processor_state p c.joint.cells))
+    → cells ≡ (next p.image.code (processor_state p c.joint.cells)).cells
     → IsCluster c
     → MadeBy c (record {
       joint = record { processors = slice_set c.joint.processors (who - 1) after; cells = cells };
@@ -103,7 +103,7 @@ popped kept more rest step more_is rest_is =
 -- a processor at a stop
 pub stopped_by : (c d : Schedule) (who : ℕ) (p : Processor) (why : Stop) → 1 ≤ who → who ≤ length c.joint.processors
     → p ≡ get_or c.joint.processors (who - 1) p
-    → Some why ≡ stop p.image.code (seen p c.joint.cells) → d ≡ c → IsAtStop who why c d
+    → Some why ≡ stop p.image.code (processor_state p c.joint.cells) → d ≡ c → IsAtStop who why c d
 stopped_by c d who p why low high read stops stays = record {
   processor = p;
   there = at_number c.joint who p low (read_at c.joint who p low high read);
@@ -121,7 +121,7 @@ back_at c at step h f read =
 
 -- the processor of a step, as it is after the step
 abbrev pub behind_step : {c : Schedule} {s : Joint} {step : Kept} → Back c s step → Processor
-behind_step {c} {s} {step} b = in_state b.processor (next b.processor.image.code (seen b.processor s.cells))
+behind_step {c} {s} {step} b = in_state b.processor (next b.processor.image.code (processor_state b.processor s.cells))
 
 pub who_low : (c : Schedule) (s : Joint) (step : Kept) → Back c s step → 1 ≤ step.who
 who_low c s step b = let n = b.numbered in omega (arith, n)
@@ -147,35 +147,35 @@ read_is c s step b q read =
     refl (who_high c s step b) read) ∙ in_cluster c s step b)
 
 cells_are : (c : Schedule) (s : Joint) (step : Kept) (b : Back c s step)
-    → c.joint.cells ≡ (next b.processor.image.code (seen b.processor s.cells)).cells
+    → c.joint.cells ≡ (next b.processor.image.code (processor_state b.processor s.cells)).cells
 cells_are c s step b = ap (λ (j : Joint). j.cells) b.led
 
 pub seen_next : (c : Schedule) (s : Joint) (step : Kept) (b : Back c s step) (q : Processor)
     → q ≡ get_or c.joint.processors (step.who - 1) q
-    → seen q c.joint.cells ≡ next q.image.code (seen b.processor s.cells)
+    → processor_state q c.joint.cells ≡ next q.image.code (processor_state b.processor s.cells)
 seen_next c s step b q read =
-    ap₂ seen (read_is c s step b q read) (cells_are c s step b)
-    ∙ ap (λ (x : Processor). next x.image.code (seen b.processor s.cells)) (sym (read_is c s step b q read))
+    ap₂ processor_state (read_is c s step b q read) (cells_are c s step b)
+    ∙ ap (λ (x : Processor). next x.image.code (processor_state b.processor s.cells)) (sym (read_is c s step b q read))
 
 pub is_next : (c : Schedule) (s : Joint) (step : Kept) (b : Back c s step) (q : Processor)
-    → q ≡ get_or c.joint.processors (step.who - 1) q → IsNext q.image.code (seen q c.joint.cells)
+    → q ≡ get_or c.joint.processors (step.who - 1) q → IsNext q.image.code (processor_state q c.joint.cells)
 is_next c s step b q read =
     let same : q.image ≡ b.processor.image = ap (λ (x : Processor). x.image) (read_is c s step b q read) in
-    subst (λ image. IsNext image.code (seen q c.joint.cells)) (sym same)
-    (IsNext-next b.processor.image.code (seen b.processor s.cells) (seen q c.joint.cells) b.code b.state b.goes
-    (seen_next c s step b q read ∙ ap (λ image. next image.code (seen b.processor s.cells)) same))
+    subst (λ image. IsNext image.code (processor_state q c.joint.cells)) (sym same)
+    (IsNext-next b.processor.image.code (processor_state b.processor s.cells) (processor_state q c.joint.cells) b.code b.state b.goes
+    (seen_next c s step b q read ∙ ap (λ image. next image.code (processor_state b.processor s.cells)) same))
 
 pub goes_there : (c : Schedule) (s : Joint) (step : Kept) (b : Back c s step) (q : Processor)
-    → q ≡ get_or c.joint.processors (step.who - 1) q → stop q.image.code (seen b.processor s.cells) ≡ None
-goes_there c s step b q read = ap (λ (x : Processor). stop x.image.code (seen b.processor s.cells))
+    → q ≡ get_or c.joint.processors (step.who - 1) q → stop q.image.code (processor_state b.processor s.cells) ≡ None
+goes_there c s step b q read = ap (λ (x : Processor). stop x.image.code (processor_state b.processor s.cells))
     (read_is c s step b q read) ∙ b.goes
 
 pub back_to : (c : Schedule) (s : Joint) (step : Kept) (b : Back c s step) (q after : Processor) (cells : List ℕ)
     → q ≡ get_or c.joint.processors (step.who - 1) q
-    → after ≡ in_state q (seen b.processor s.cells) → cells ≡ s.cells
+    → after ≡ in_state q (processor_state b.processor s.cells) → cells ≡ s.cells
     → record { processors = slice_set c.joint.processors (step.who - 1) after; cells = cells } ≡ s
 back_to c s step b q after cells read after_is cells_is =
-    let own : after ≡ b.processor = after_is ∙ ap (λ x. in_state x (seen b.processor s.cells))
+    let own : after ≡ b.processor = after_is ∙ ap (λ x. in_state x (processor_state b.processor s.cells))
     (read_is c s step b q read) in
     let list : slice_set c.joint.processors (step.who - 1) after ≡ s.processors =
     ap₂ (λ i x. slice_set c.joint.processors i x) (place_is c s step b) own

@@ -8,7 +8,7 @@ use borrow.Author.Tests.{eqb-false}
 use Rattle.pisa_isa.specs.Machine.{stop, next}
 use Rattle.pisa_cluster.specs.declared.processor.Processor.{Processor}
 use Rattle.pisa_cluster.specs.declared.processor.Kept.{Kept}
-use Rattle.pisa_cluster.specs.Replay.{Joint, processor_at, seen, in_state, touches, step_of, cstep, replay, Goes, AllGo}
+use Rattle.pisa_cluster.specs.Replay.{Joint, processor_at, processor_state, in_state, touches, step_of, cstep, replay, StepGoes, AllGo}
 use Rattle.pisa_cluster.specs.Replay.{makers}
 use Rattle.pisa_cluster.specs.Schedules.{is_same_cell, next_touch}
 use Rattle.pisa_cluster.proofs.Locality.{written, put_by, next-same, stop-same, next-cells, length-written}
@@ -38,7 +38,7 @@ module _ {X : Type 0} where
 
 -- the next state of a processor, whatever the cells that it does not touch hold
 in_next : (p : Processor) (t : Option ℕ) (w : ℕ) (cells : List ℕ) → is_same_cell (touches p) t ≡ false
-    → in_state p (next p.image.code (seen p (written t w cells))) ≡ in_state p (next p.image.code (seen p cells))
+    → in_state p (next p.image.code (processor_state p (written t w cells))) ≡ in_state p (next p.image.code (processor_state p cells))
 in_next p t w cells apart = ap (in_state p) (next-same p (written t w cells) cells
     (read-written (touches p) t w cells apart))
 
@@ -56,18 +56,18 @@ module _ (s : Joint) (i k : ℕ) (p q : Processor) where
       let turned = same_turned (touches p) (touches q) free in
       let first = next-cells p s.cells in
       let second = next-cells q s.cells in
-      let p1 = in_state p (next p.image.code (seen p s.cells)) in
-      let q1 = in_state q (next q.image.code (seen q s.cells)) in
-      let left_cells : (next q.image.code (seen q (next p.image.code (seen p s.cells)).cells)).cells
+      let p1 = in_state p (next p.image.code (processor_state p s.cells)) in
+      let q1 = in_state q (next q.image.code (processor_state q s.cells)) in
+      let left_cells : (next q.image.code (processor_state q (next p.image.code (processor_state p s.cells)).cells)).cells
       ≡ written (touches q) (put_by q) (written (touches p) (put_by p) s.cells)
-      = next-cells q (next p.image.code (seen p s.cells)).cells ∙ ap (written (touches q) (put_by q)) first in
-      let right_cells : (next p.image.code (seen p (next q.image.code (seen q s.cells)).cells)).cells
+      = next-cells q (next p.image.code (processor_state p s.cells)).cells ∙ ap (written (touches q) (put_by q)) first in
+      let right_cells : (next p.image.code (processor_state p (next q.image.code (processor_state q s.cells)).cells)).cells
       ≡ written (touches p) (put_by p) (written (touches q) (put_by q) s.cells)
-      = next-cells p (next q.image.code (seen q s.cells)).cells ∙ ap (written (touches p) (put_by p)) second in
-      let q2 : in_state q (next q.image.code (seen q (next p.image.code (seen p s.cells)).cells)) ≡ q1
-      = ap (λ c. in_state q (next q.image.code (seen q c))) first ∙ in_next q (touches p) (put_by p) s.cells turned in
-      let p2 : in_state p (next p.image.code (seen p (next q.image.code (seen q s.cells)).cells)) ≡ p1
-      = ap (λ c. in_state p (next p.image.code (seen p c))) second ∙ in_next p (touches q) (put_by q) s.cells free in
+      = next-cells p (next q.image.code (processor_state q s.cells)).cells ∙ ap (written (touches p) (put_by p)) second in
+      let q2 : in_state q (next q.image.code (processor_state q (next p.image.code (processor_state p s.cells)).cells)) ≡ q1
+      = ap (λ c. in_state q (next q.image.code (processor_state q c))) first ∙ in_next q (touches p) (put_by p) s.cells turned in
+      let p2 : in_state p (next p.image.code (processor_state p (next q.image.code (processor_state q s.cells)).cells)) ≡ p1
+      = ap (λ c. in_state p (next p.image.code (processor_state p c))) second ∙ in_next p (touches q) (put_by q) s.cells free in
       ap₂ (λ x c. record { processors = slice_set (slice_set s.processors i p1) k x; cells = c }) q2 left_cells
       ∙ ap₂ (λ ps c. record { processors = ps; cells = c }) (set_comm s.processors i k p1 q1 apart)
       (written-written (touches q) (touches p) (put_by q) (put_by p) s.cells turned)
@@ -75,12 +75,12 @@ module _ (s : Joint) (i k : ℕ) (p q : Processor) where
 
 -- a step, and a step of another processor after it
 pub record Swapped (s : Joint) (step later : Kept) : Type 0 where
-  pub first : Goes s later
-  pub second : Goes (cstep s later.who) step
+  pub first : StepGoes s later
+  pub second : StepGoes (cstep s later.who) step
   pub same : cstep (cstep s step.who) later.who ≡ cstep (cstep s later.who) step.who
 
 swapped_at : (s : Joint) (i k : ℕ) (step later : Kept) → step.who ≡ suc i → later.who ≡ suc k → i ≢ k
-    → (g : Goes s step) → (h : Goes (cstep s step.who) later)
+    → (g : StepGoes s step) → (h : StepGoes (cstep s step.who) later)
     → is_same_cell step.touched later.touched ≡ false → Swapped s step later
 swapped_at s i k step later mine its apart g h free =
     let p = g.processor in
@@ -91,7 +91,7 @@ swapped_at s i k step later mine its apart g h free =
     subst (λ (t : Joint). slice_get t.processors k ≡ Some q) led
     (subst (λ n. processor_at (cstep s step.who) n ≡ Some q) its h.there) in
     let its_there : slice_get s.processors k ≡ Some q = sym
-    (slice_get-set_other s.processors i k (in_state p (next p.image.code (seen p s.cells))) (λ e. apart (sym e)))
+    (slice_get-set_other s.processors i k (in_state p (next p.image.code (processor_state p s.cells))) (λ e. apart (sym e)))
     ∙ found in
     let its_led : cstep s later.who ≡ step_of s k (Some q) = ap (cstep s) its ∙ ap (step_of s k) its_there in
     let free_now : is_same_cell (touches p) (touches q) ≡ false =
@@ -100,13 +100,13 @@ swapped_at s i k step later mine its apart g h free =
     ∙ length-written (touches p) (put_by p) s.cells in
     let its_long : length (step_of s k (Some q)).cells ≡ length s.cells = ap length (next-cells q s.cells)
     ∙ length-written (touches q) (put_by q) s.cells in
-    let goes_first : stop q.image.code (seen q s.cells) ≡ None =
+    let goes_first : stop q.image.code (processor_state q s.cells) ≡ None =
     stop-same q s.cells (step_of s i (Some p)).cells (sym long)
-    ∙ subst (λ (t : Joint). stop q.image.code (seen q t.cells) ≡ None) led h.goes in
-    let goes_second : stop p.image.code (seen p (step_of s k (Some q)).cells) ≡ None =
+    ∙ subst (λ (t : Joint). stop q.image.code (processor_state q t.cells) ≡ None) led h.goes in
+    let goes_second : stop p.image.code (processor_state p (step_of s k (Some q)).cells) ≡ None =
     stop-same p (step_of s k (Some q)).cells s.cells its_long ∙ g.goes in
     let there_second : slice_get (step_of s k (Some q)).processors i ≡ Some p =
-    slice_get-set_other s.processors k i (in_state q (next q.image.code (seen q s.cells))) apart ∙ there in
+    slice_get-set_other s.processors k i (in_state q (next q.image.code (processor_state q s.cells))) apart ∙ there in
     let second_led : cstep (step_of s k (Some q)) step.who ≡ step_of (step_of s k (Some q)) i (Some p) =
     ap (cstep (step_of s k (Some q))) mine ∙ ap (step_of (step_of s k (Some q)) i) there_second in
     let first_led : cstep (step_of s i (Some p)) later.who ≡ step_of (step_of s i (Some p)) k (Some q) =
@@ -118,7 +118,7 @@ swapped_at s i k step later mine its apart g h free =
         goes = goes_first;
         touched = h.touched;
       };
-      second = subst (λ (t : Joint). Goes t step) (sym its_led) (record {
+      second = subst (λ (t : Joint). StepGoes t step) (sym its_led) (record {
         processor = p;
         there = subst (λ n. processor_at (step_of s k (Some q)) n ≡ Some p) (sym mine) there_second;
         goes = goes_second;
@@ -134,7 +134,7 @@ numbered : (s : Joint) (who : ℕ) (p : Processor) → processor_at s who ≡ So
 numbered s zero p h = absurd (none-some p h)
 numbered s (suc i) p h = (i, refl)
 
-pub swapped : (s : Joint) (step later : Kept) → later.who ≢ step.who → Goes s step → Goes (cstep s step.who) later
+pub swapped : (s : Joint) (step later : Kept) → later.who ≢ step.who → StepGoes s step → StepGoes (cstep s step.who) later
     → is_same_cell step.touched later.touched ≡ false → Swapped s step later
 swapped s step later apart g h free =
     let mine = numbered s step.who g.processor g.there in
@@ -144,7 +144,7 @@ swapped s step later apart g h free =
 -- a step made after all later ones
 pub record Behind (s : Joint) (step : Kept) (later : List Kept) : Type 0 where
   pub follows : AllGo s later
-  pub goes : Goes (replay s (makers later)) step
+  pub goes : StepGoes (replay s (makers later)) step
   pub leads : replay (cstep s step.who) (makers later) ≡ cstep (replay s (makers later)) step.who
 
 not_found : {X : Type 0} (found : Bool) (x : X) (rest : Option X) → cond found (Some x) rest ≡ None
@@ -152,7 +152,7 @@ not_found : {X : Type 0} (found : Bool) (x : X) (rest : Option X) → cond found
 not_found true x rest h = absurd (none-some x (sym h))
 not_found false x rest h = (refl, h)
 
-pub behind : (later : List Kept) (s : Joint) (step : Kept) → Goes s step → AllGo (cstep s step.who) later
+pub behind : (later : List Kept) (s : Joint) (step : Kept) → StepGoes s step → AllGo (cstep s step.who) later
     → All (λ (k : Kept). k.who ≢ step.who) later → next_touch step later ≡ None → Behind s step later
 behind [] s step g follows others_all free = record { follows = tt; goes = g; leads = refl }
 behind (k ∷ later) s step g follows others_all free =

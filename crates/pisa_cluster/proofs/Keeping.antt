@@ -11,8 +11,8 @@ use Rattle.pisa_isa.specs.Machine.{IsState, stop, next}
 use Rattle.pisa_isa.proofs.Keeps.{next-IsState}
 use Rattle.pisa_cluster.specs.declared.processor.Processor.{Processor}
 use Rattle.pisa_cluster.specs.declared.processor.Kept.{Kept}
-use Rattle.pisa_cluster.specs.Replay.{Joint, processor_at, seen, in_state, touches, step_of, cstep, replay, AllGo}
-use Rattle.pisa_cluster.specs.Replay.{makers, started_processor, begun, start_of_joint}
+use Rattle.pisa_cluster.specs.Replay.{Joint, processor_at, processor_state, in_state, touches, step_of, cstep, replay, AllGo}
+use Rattle.pisa_cluster.specs.Replay.{makers, started_processor, joint_begun, start_of_joint}
 use Rattle.pisa_cluster.proofs.Locality.{put_by, next-cells, length-written}
 
 -- images and the number of cells
@@ -27,7 +27,7 @@ step_of-start : (s : Joint) (i : ℕ) (o : Option Processor) → slice_get s.pro
     → start_of_joint (step_of s i o) ≡ start_of_joint s
 step_of-start s i None there = refl
 step_of-start s i (Some p) there =
-    ap₂ (λ images n. begun images n) (set-images s.processors i p (in_state p (next p.image.code (seen p s.cells)))
+    ap₂ (λ images n. joint_begun images n) (set-images s.processors i p (in_state p (next p.image.code (processor_state p s.cells)))
     there refl)
     (ap length (next-cells p s.cells) ∙ length-written (touches p) (put_by p) s.cells)
 
@@ -43,8 +43,8 @@ images_started : (images : List Segments) → map (λ (p : Processor). p.image) 
 images_started [] = refl
 images_started (image ∷ images) = ap (λ rest. image ∷ rest) (images_started images)
 
-pub start_of-begun : (images : List Segments) (n : ℕ) → start_of_joint (begun images n) ≡ begun images n
-start_of-begun images n = ap₂ (λ list k. begun list k) (images_started images) (length-replicate n 0)
+pub start_of-begun : (images : List Segments) (n : ℕ) → start_of_joint (joint_begun images n) ≡ joint_begun images n
+start_of-begun images n = ap₂ (λ list k. joint_begun list k) (images_started images) (length-replicate n 0)
 
 -- every image is one
 abbrev pub HasImages : Joint → Type 0
@@ -80,7 +80,7 @@ pub record AreWords (s : Joint) : Type 0 where
   pub processors : All HasWords s.processors
   pub cells : All IsWord s.cells
 
-pub state_seen : (p : Processor) (cells : List ℕ) → HasWords p → All IsWord cells → IsState (seen p cells)
+pub state_seen : (p : Processor) (cells : List ℕ) → HasWords p → All IsWord cells → IsState (processor_state p cells)
 state_seen p cells h words = record { br_word = h.br_word; count = h.count; words = h.words; cell_words = words }
 
 pub all-there : {X : Type 0} (P : X → Type 0) (xs : List X) (i : ℕ) (x : X) → slice_get xs i ≡ Some x → All P xs → P x
@@ -93,18 +93,18 @@ word_there s zero p there h = absurd (cc)
 word_there s (suc i) p there h = all-there HasWords s.processors i p there h.processors
 
 step_of-words : (s : Joint) (i : ℕ) (p : Processor) → slice_get s.processors i ≡ Some p → AreWords s
-    → stop p.image.code (seen p s.cells) ≡ None → AreWords (step_of s i (Some p))
+    → stop p.image.code (processor_state p s.cells) ≡ None → AreWords (step_of s i (Some p))
 step_of-words s i p there h goes =
     let mine = all-there HasWords s.processors i p there h.processors in
-    let m = next-IsState p.image.code (seen p s.cells) mine.is_image.is_code (state_seen p s.cells mine h.cells) goes in
+    let m = next-IsState p.image.code (processor_state p s.cells) mine.is_image.is_code (state_seen p s.cells mine h.cells) goes in
     record {
-      processors = All-set HasWords s.processors i (in_state p (next p.image.code (seen p s.cells)))
+      processors = All-set HasWords s.processors i (in_state p (next p.image.code (processor_state p s.cells)))
           (record { is_image = mine.is_image; br_word = m.br_word; count = m.count; words = m.words }) h.processors;
       cells = m.cell_words;
     }
 
 cstep-words : (s : Joint) (who : ℕ) (p : Processor) → processor_at s who ≡ Some p → AreWords s
-    → stop p.image.code (seen p s.cells) ≡ None → AreWords (cstep s who)
+    → stop p.image.code (processor_state p s.cells) ≡ None → AreWords (cstep s who)
 cstep-words s zero p there h goes = h
 cstep-words s (suc i) p there h goes = subst (λ o. AreWords (step_of s i o)) (sym there)
     (step_of-words s i p there h goes)
@@ -125,7 +125,7 @@ started_words image h = record {
   words = zero_words 32;
 }
 
-pub begun-words : (images : List Segments) (n : ℕ) → All IsImage images → AreWords (begun images n)
+pub begun-words : (images : List Segments) (n : ℕ) → All IsImage images → AreWords (joint_begun images n)
 begun-words images n h = record {
   processors = All-map HasWords started_processor images
       (All-weaker IsImage (λ image. HasWords (started_processor image)) started_words images h);

@@ -9,10 +9,10 @@ use Rattle.pisa_isa.specs.declared.cell.Cell.{Cell}
 use Rattle.pisa_isa.specs.declared.machine.Core.{Core}
 use Rattle.pisa_isa.specs.declared.machine.Stop.TheVariants.{BadAddress}
 use Rattle.pisa_isa.specs.Table.{inverse_op}
-use Rattle.pisa_isa.specs.Machine.{State, state_of, fetch, faced, row, effect, effect_at, moved, stop_in, stop_at, stop}
+use Rattle.pisa_isa.specs.Machine.{State, core_state, fetch, faced, row, effect, effect_at, moved, stop_in, stop_at, stop}
 use Rattle.pisa_isa.specs.Machine.{next}
 use Rattle.pisa_cluster.specs.declared.processor.Processor.{Processor}
-use Rattle.pisa_cluster.specs.Replay.{address_by, address_at, touches, seen}
+use Rattle.pisa_cluster.specs.Replay.{address_by, address_at, touches, processor_state}
 use Rattle.pisa_cluster.specs.Schedules.{is_same_cell}
 
 -- the word in a cell that a step touches, and the cells with another word there
@@ -65,7 +65,7 @@ faced-a false c = refl
 -- a cell's effect and the move
 module _ (core : Core) where
   abbrev at : List ℕ → State
-  at cells = state_of core cells
+  at cells = core_state core cells
 
   effect-local : (o : Option Cell) (cells others : List ℕ)
       → read (address_at o core.regs) cells ≡ read (address_at o core.regs) others
@@ -107,15 +107,15 @@ module _ (core : Core) where
 
 -- the same of a processor
 pub next-same : (p : Processor) (cells others : List ℕ) → read (touches p) cells ≡ read (touches p) others
-    → next p.image.code (seen p cells) ≡ record (next p.image.code (seen p others))
+    → next p.image.code (processor_state p cells) ≡ record (next p.image.code (processor_state p others))
     { cells = written (touches p) (put_by p) cells }
 next-same p cells others h = next-local p.core p.image.code cells others h
 
 pub stop-same : (p : Processor) (cells others : List ℕ) → length cells ≡ length others
-    → stop p.image.code (seen p cells) ≡ stop p.image.code (seen p others)
+    → stop p.image.code (processor_state p cells) ≡ stop p.image.code (processor_state p others)
 stop-same p cells others h = stop_at-local p.core (fetch p.image.code p.core.pc) cells others h
 
-pub next-cells : (p : Processor) (cells : List ℕ) → (next p.image.code (seen p cells)).cells
+pub next-cells : (p : Processor) (cells : List ℕ) → (next p.image.code (processor_state p cells)).cells
     ≡ written (touches p) (put_by p) cells
 next-cells p cells = ap (λ (m : State). m.cells) (next-same p cells cells refl)
 

@@ -11,10 +11,10 @@ use Rattle.pisa_cluster.specs.declared.cluster.Moved.{Moved}
 use Rattle.pisa_cluster.specs.declared.cluster.Moved.TheVariants.{Made, Stopped}
 use Rattle.pisa_cluster.specs.declared.cluster.Undone.{Undone}
 use Rattle.pisa_cluster.specs.declared.cluster.Undone.TheVariants.{Done, Nothing, Blocked}
-use Rattle.pisa_cluster.specs.Replay.{Joint, processor_at, seen, touches, step_of, cstep, replay, Goes, AllGo, makers}
+use Rattle.pisa_cluster.specs.Replay.{Joint, processor_at, processor_state, touches, step_of, cstep, replay, StepGoes, AllGo, makers}
 use Rattle.pisa_cluster.specs.Replay.{started_processor, start_of_joint}
-use Rattle.pisa_cluster.specs.Schedules.{Schedule, AreSerials, IsCluster, Moves, LastOf, next_touch, IsFree, Undoes}
-use Rattle.pisa_cluster.specs.Schedules.{rewound, Move, Step, Undo, Rewind, Performs, Leads}
+use Rattle.pisa_cluster.specs.Schedules.{Schedule, AreSerials, IsCluster, ProcessorMoves, LastOf, next_touch, IsFree, Undoes}
+use Rattle.pisa_cluster.specs.Schedules.{rewound, Move, Step, Undo, Rewind, Performs, MovesLead}
 use Rattle.pisa_cluster.proofs.Commuting.{behind, replay-append, all_go-append, all_go-split}
 use Rattle.pisa_cluster.proofs.Keeping.{HasImages, AreWords, cstep-start, replay-start, start_of-begun, images_same}
 use Rattle.pisa_cluster.proofs.Keeping.{start-words, replay-words, word_there, state_seen}
@@ -62,7 +62,7 @@ kept_cluster c kept next images follows serials =
 
 -- taking back the last step of a processor
 pub record Taken (c : Schedule) (earlier : List Kept) (step : Kept) (later : List Kept) : Type 0 where
-  pub goes : Goes (replay (start_of_joint c.joint) (makers (earlier ++ later))) step
+  pub goes : StepGoes (replay (start_of_joint c.joint) (makers (earlier ++ later))) step
   pub leads : c.joint ≡ cstep (replay (start_of_joint c.joint) (makers (earlier ++ later))) step.who
   pub words : AreWords (replay (start_of_joint c.joint) (makers (earlier ++ later)))
   pub cluster : IsCluster (record c {
@@ -82,7 +82,7 @@ taken c who last h free =
     let joined = replay-append last.earlier last.later s in
     let all = all_go-append last.earlier last.later s parts.0 b.follows in
     record {
-      goes = subst (λ t. Goes t last.step) (sym joined) b.goes;
+      goes = subst (λ t. StepGoes t last.step) (sym joined) b.goes;
       leads =
           sym h.leads ∙ ap (λ k. replay s (makers k)) last.whole ∙ replay-append last.earlier (last.step ∷ last.later) s
           ∙ b.leads
@@ -95,7 +95,7 @@ taken c who last h free =
 
 -- a step that is made
 pub made : (c : Schedule) (who : ℕ) (p : Processor) → processor_at c.joint who ≡ Some p
-    → stop p.image.code (seen p c.joint.cells) ≡ None → IsCluster c
+    → stop p.image.code (processor_state p c.joint.cells) ≡ None → IsCluster c
     → IsCluster (record {
       joint = cstep c.joint who;
       kept = c.kept
@@ -105,7 +105,7 @@ pub made : (c : Schedule) (who : ℕ) (p : Processor) → processor_at c.joint w
 made c who p there goes h =
     let s = start_of_joint c.joint in
     let step : Kept = record { serial = c.next_serial; who = who; touched = touches p } in
-    let g : Goes (replay s (makers c.kept)) step = subst (λ t. Goes t step) (sym h.leads)
+    let g : StepGoes (replay s (makers c.kept)) step = subst (λ t. StepGoes t step) (sym h.leads)
     (record { processor = p; there = there; goes = goes; touched = refl }) in
     let all = all_go-append c.kept (step ∷ []) s h.follows (g, tt) in
     let leads : replay s (makers (c.kept ++ step ∷ [])) ≡ cstep c.joint who = replay-append c.kept (step ∷ []) s
@@ -138,13 +138,13 @@ pub record Back (c : Schedule) (s : Joint) (step : Kept) : Type 0 where
   pub numbered : step.who ≡ suc place
   pub processor : Processor
   pub there : slice_get s.processors place ≡ Some processor
-  pub goes : stop processor.image.code (seen processor s.cells) ≡ None
-  pub state : IsState (seen processor s.cells)
+  pub goes : stop processor.image.code (processor_state processor s.cells) ≡ None
+  pub state : IsState (processor_state processor s.cells)
   pub code : IsCode processor.image.code
   pub led : c.joint ≡ step_of s place (Some processor)
 
 back_of : (c : Schedule) (s : Joint) (step : Kept) (who : ℕ) (p : Processor) → step.who ≡ who
-    → processor_at s who ≡ Some p → stop p.image.code (seen p s.cells) ≡ None → AreWords s → c.joint ≡ cstep s step.who
+    → processor_at s who ≡ Some p → stop p.image.code (processor_state p s.cells) ≡ None → AreWords s → c.joint ≡ cstep s step.who
     → Back c s step
 back_of c s step zero p same there goes words led = absurd (cc)
 back_of c s step (suc i) p same there goes words led =
@@ -214,7 +214,7 @@ unchanged c d same h = record {
   start = ap (λ (x : Schedule). start_of_joint x.joint) same;
 }
 
-one_step : (who : ℕ) (answer : Moved) (c d : Schedule) → IsCluster c → Moves who answer c d → Kept_by c d
+one_step : (who : ℕ) (answer : Moved) (c d : Schedule) → IsCluster c → ProcessorMoves who answer c d → Kept_by c d
 one_step who (Stopped why) c d h m = unchanged c d m.stays h
 one_step who (Made serial) c d h m = record {
   cluster = subst IsCluster (sym (m.leads ∙ ap (λ n. record {
@@ -245,16 +245,16 @@ one_move Rewind c d h p = record {
   start = ap (λ (x : Schedule). start_of_joint x.joint) p ∙ start-start c.joint;
 }
 
-all_moves : (moves : List Move) (c d : Schedule) → IsCluster c → Leads moves c d → Kept_by c d
+all_moves : (moves : List Move) (c d : Schedule) → IsCluster c → MovesLead moves c d → Kept_by c d
 all_moves [] c d h l = unchanged c d l h
 all_moves (move ∷ moves) c d h l =
     let first = one_move move c l.0 h l.1 in
     let rest = all_moves moves l.0 d first.cluster l.2 in
     record { cluster = rest.cluster; start = rest.start ∙ first.start }
 
-pub schedules_keep : (moves : List Move) (c d : Schedule) → IsCluster c → Leads moves c d → IsCluster d
+pub schedules_keep : (moves : List Move) (c d : Schedule) → IsCluster c → MovesLead moves c d → IsCluster d
 schedules_keep moves c d h l = (all_moves moves c d h l).cluster
 
-pub schedules_start : (moves : List Move) (c d : Schedule) → IsCluster c → Leads moves c d
+pub schedules_start : (moves : List Move) (c d : Schedule) → IsCluster c → MovesLead moves c d
     → start_of_joint d.joint ≡ start_of_joint c.joint
 schedules_start moves c d h l = (all_moves moves c d h l).start

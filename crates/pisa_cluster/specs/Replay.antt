@@ -5,7 +5,7 @@ use Rattle.pisa_isa.specs.declared.cell.Op.{Op}
 use Rattle.pisa_isa.specs.declared.cell.Op.TheVariants.{Exch}
 use Rattle.pisa_isa.specs.declared.cell.Cell.{Cell}
 use Rattle.pisa_isa.specs.Image.{Segments, start_of}
-use Rattle.pisa_isa.specs.Machine.{State, state_of, fetch, stop, next}
+use Rattle.pisa_isa.specs.Machine.{State, core_state, fetch, stop, next}
 use Rattle.pisa_isa.specs.Runs.{zero_registers}
 use Rattle.pisa_cluster.specs.declared.processor.Processor.{Processor}
 use Rattle.pisa_cluster.specs.declared.processor.Kept.{Kept}
@@ -21,8 +21,8 @@ processor_at s zero = None
 processor_at s (suc i) = slice_get s.processors i
 
 -- what a processor sees: its own registers, and the common cells
-abbrev pub seen : Processor → List ℕ → State
-seen p cells = state_of p.core cells
+abbrev pub processor_state : Processor → List ℕ → State
+processor_state p cells = core_state p.core cells
 
 -- a processor in a state that it sees
 abbrev pub in_state : Processor → State → Processor
@@ -50,7 +50,7 @@ with_state s i p m = record {
 
 abbrev pub step_of : Joint → (i : ℕ) → Option Processor → Joint
 step_of s i None = s
-step_of s i (Some p) = with_state s i p (next p.image.code (seen p s.cells))
+step_of s i (Some p) = with_state s i p (next p.image.code (processor_state p s.cells))
 
 -- one step of the processor with a number
 abbrev pub cstep : Joint → ℕ → Joint
@@ -63,16 +63,16 @@ replay s [] = s
 replay s (who ∷ rest) = replay (cstep s who) rest
 
 -- the next step of a processor is no stop, and touches what is noted
-pub record Goes (s : Joint) (step : Kept) : Type 0 where
+pub record StepGoes (s : Joint) (step : Kept) : Type 0 where
   pub processor : Processor
   pub there : processor_at s step.who ≡ Some processor
-  pub goes : stop processor.image.code (seen processor s.cells) ≡ None
+  pub goes : stop processor.image.code (processor_state processor s.cells) ≡ None
   pub touched : step.touched ≡ touches processor
 
 -- so is each of a list, one after the other
 abbrev pub AllGo : Joint → List Kept → Type 0
 AllGo s [] = Unit {0}
-AllGo s (step ∷ rest) = Goes s step × AllGo (cstep s step.who) rest
+AllGo s (step ∷ rest) = StepGoes s step × AllGo (cstep s step.who) rest
 
 -- who made the steps
 abbrev pub makers : List Kept → List ℕ
@@ -92,9 +92,9 @@ started_processor image =
     }
 
 -- the processors of images at their START, and so many zero cells
-abbrev pub begun : List Segments → (cells : ℕ) → Joint
-begun images cells = record { processors = map started_processor images; cells = replicate cells 0 }
+abbrev pub joint_begun : List Segments → (cells : ℕ) → Joint
+joint_begun images cells = record { processors = map started_processor images; cells = replicate cells 0 }
 
 -- the start of processors and cells that have run
 abbrev pub start_of_joint : Joint → Joint
-start_of_joint s = begun (map (λ p. p.image) s.processors) (length s.cells)
+start_of_joint s = joint_begun (map (λ p. p.image) s.processors) (length s.cells)

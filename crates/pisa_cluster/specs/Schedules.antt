@@ -11,7 +11,7 @@ use Rattle.pisa_cluster.specs.declared.cluster.Moved.{Moved}
 use Rattle.pisa_cluster.specs.declared.cluster.Moved.TheVariants.{Made, Stopped}
 use Rattle.pisa_cluster.specs.declared.cluster.Undone.{Undone}
 use Rattle.pisa_cluster.specs.declared.cluster.Undone.TheVariants.{Done, Nothing, Blocked}
-use Rattle.pisa_cluster.specs.Replay.{Joint, begun, processor_at, seen, touches, cstep, replay}
+use Rattle.pisa_cluster.specs.Replay.{Joint, joint_begun, processor_at, processor_state, touches, cstep, replay}
 use Rattle.pisa_cluster.specs.Replay.{AllGo, makers, start_of_joint}
 
 -- what contracts see of a cluster: its state, its kept steps in order, and the serial number of the
@@ -23,7 +23,7 @@ pub record Schedule : Type 0 where
 
 -- the cluster of these images on so many cells, at its start
 abbrev pub first_schedule : List Segments → (cells : ℕ) → Schedule
-first_schedule images cells = record { joint = begun images cells; kept = []; next_serial = 1 }
+first_schedule images cells = record { joint = joint_begun images cells; kept = []; next_serial = 1 }
 
 -- serial numbers from one on, each greater than those before it, and all below another
 abbrev pub AreSerials : (from below : ℕ) → List Kept → Type 0
@@ -39,10 +39,10 @@ pub record IsCluster (c : Schedule) : Type 0 where
   pub serials : AreSerials 1 c.next_serial c.kept
 
 -- a step of a processor is made, and kept as the last one
-pub record IsMade (who : ℕ) (serial : ℕ) (c d : Schedule) : Type 0 where
+pub record IsStepMade (who : ℕ) (serial : ℕ) (c d : Schedule) : Type 0 where
   pub processor : Processor
   pub there : processor_at c.joint who ≡ Some processor
-  pub goes : stop processor.image.code (seen processor c.joint.cells) ≡ None
+  pub goes : stop processor.image.code (processor_state processor c.joint.cells) ≡ None
   pub numbered : serial ≡ c.next_serial
   pub leads : d ≡ record {
     joint = cstep c.joint who;
@@ -54,13 +54,13 @@ pub record IsMade (who : ℕ) (serial : ℕ) (c d : Schedule) : Type 0 where
 pub record IsAtStop (who : ℕ) (why : Stop) (c d : Schedule) : Type 0 where
   pub processor : Processor
   pub there : processor_at c.joint who ≡ Some processor
-  pub stops : stop processor.image.code (seen processor c.joint.cells) ≡ Some why
+  pub stops : stop processor.image.code (processor_state processor c.joint.cells) ≡ Some why
   pub stays : d ≡ c
 
 -- one step of a processor
-abbrev pub Moves : (who : ℕ) → Moved → (c d : Schedule) → Type 0
-Moves who (Made serial) c d = IsMade who serial c d
-Moves who (Stopped why) c d = IsAtStop who why c d
+abbrev pub ProcessorMoves : (who : ℕ) → Moved → (c d : Schedule) → Type 0
+ProcessorMoves who (Made serial) c d = IsStepMade who serial c d
+ProcessorMoves who (Stopped why) c d = IsAtStop who why c d
 
 -- the last kept step of a processor, those before it and those after it
 pub record LastOf (who : ℕ) (kept : List Kept) : Type 0 where
@@ -129,11 +129,11 @@ pub data Move : Type 0 where
 
 -- a move leads from a cluster to another, whatever it returns
 abbrev pub Performs : Move → (c d : Schedule) → Type 0
-Performs (Step who) c d = (answer : Moved) × Moves who answer c d
+Performs (Step who) c d = (answer : Moved) × ProcessorMoves who answer c d
 Performs (Undo who) c d = (answer : Undone) × Undoes who answer c d
 Performs Rewind c d = d ≡ rewound c
 
 -- so do the moves of a list, one after the other
-abbrev pub Leads : List Move → (c d : Schedule) → Type 0
-Leads [] c d = d ≡ c
-Leads (move ∷ moves) c d = (e : Schedule) × Performs move c e × Leads moves e d
+abbrev pub MovesLead : List Move → (c d : Schedule) → Type 0
+MovesLead [] c d = d ≡ c
+MovesLead (move ∷ moves) c d = (e : Schedule) × Performs move c e × MovesLead moves e d

@@ -3,7 +3,7 @@ ghost use Rattle.std.specs.Prelude.{◌≡◌, ◌<◌, ◌≤◌, ◌^◌, ◌+
 ghost use Rattle.pisa_isa.specs.Image.{IsImage};
 ghost use Rattle.pisa_cluster.specs.declared.processor.Processor.{Processor};
 ghost use Rattle.pisa_cluster.specs.Replay.{started_processor, start_of_joint, processor_at, replay, makers};
-ghost use Rattle.pisa_cluster.specs.Schedules.{Schedule, first_schedule, IsCluster, IsFree, Moves, Undoes, rewound};
+ghost use Rattle.pisa_cluster.specs.Schedules.{Schedule, first_schedule, IsCluster, IsFree, ProcessorMoves, Undoes, rewound};
 
 use crate::processor::{Common, Kept, Processor};
 use crate::search::{last_step, next_touch, steps_after};
@@ -101,7 +101,7 @@ impl Cluster {
         requires first { 1 ≤ who }
         requires last { who ≤ length self.old.joint.processors }
         requires serial { self.old.next_serial < 2 ^ 63 }
-        ensures answer { IfOk result (λ answer. Moves who answer self.old self.new) }
+        ensures answer { IfOk result (λ answer. ProcessorMoves who answer self.old self.new) }
         ensures refused { IfErr result (λ e. self.new ≡ self.old) }
         ensures processors { length self.new.joint.processors ≡ length self.old.joint.processors }
         ensures cells { length self.new.joint.cells ≡ length self.old.joint.cells }

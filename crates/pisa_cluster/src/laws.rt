@@ -1,7 +1,7 @@
 // The laws of clusters, each the contract of a function that does nothing.
 ghost use Rattle.std.specs.Prelude.{◌≡◌, ◌++◌, ◌∷◌, [], ℕ, List};
 ghost use Rattle.pisa_cluster.specs.Replay.{start_of_joint};
-ghost use Rattle.pisa_cluster.specs.Schedules.{Schedule, Move, Leads, Undoes, IsCluster};
+ghost use Rattle.pisa_cluster.specs.Schedules.{Schedule, Move, MovesLead, Undoes, IsCluster};
 ghost use Rattle.pisa_cluster.specs.declared.processor.Kept.{Kept};
 ghost use Rattle.pisa_cluster.specs.declared.cluster.Undone.TheVariants.{Blocked};
 
@@ -9,8 +9,8 @@ ghost use Rattle.pisa_cluster.specs.declared.cluster.Undone.TheVariants.{Blocked
 /// steps in order. No step of that replay is a stop, and each touches what is noted. The start
 /// stays what it was.
 pub fn schedules_replay()
-    ensures keeps { (moves : List Move) (c d : Schedule) → IsCluster c → Leads moves c d → IsCluster d }
-    ensures start { (moves : List Move) (c d : Schedule) → IsCluster c → Leads moves c d
+    ensures keeps { (moves : List Move) (c d : Schedule) → IsCluster c → MovesLead moves c d → IsCluster d }
+    ensures start { (moves : List Move) (c d : Schedule) → IsCluster c → MovesLead moves c d
         → start_of_joint d.joint ≡ start_of_joint c.joint }
 {}
 

@@ -2,7 +2,7 @@
 ghost use Rattle.std.specs.Prelude.{◌≡◌, ◌<◌, ◌^◌, replicate, IfOk, length, is_none, if◌then◌else◌, None};
 ghost use Rattle.pisa_isa.specs.Image.{IsImage};
 ghost use Rattle.pisa_isa.specs.Machine.{State, stop, next, IsState, IsNext};
-ghost use Rattle.pisa_cluster.specs.Replay.{started_processor, touches, seen, in_state};
+ghost use Rattle.pisa_cluster.specs.Replay.{started_processor, touches, processor_state, in_state};
 
 use pisa_isa::{Cells, Core, Image, Op, Stop, step, unstep};
 use rpp_words::NoMemory;
@@ -77,13 +77,13 @@ impl Processor {
 
     /// Makes one step, or returns why the processor stops, and then changes nothing.
     pub(crate) fn step(&mut self, cells: &mut Common) -> Option<Stop>
-        ensures stops { result ≡ stop self.old.image.code (seen self.old cells.old.words.items) }
+        ensures stops { result ≡ stop self.old.image.code (processor_state self.old cells.old.words.items) }
         ensures processor { self.new ≡ (if is_none result
-            then in_state self.old (next self.old.image.code (seen self.old cells.old.words.items))
+            then in_state self.old (next self.old.image.code (processor_state self.old cells.old.words.items))
             else self.old) }
         ensures cells { cells.new.words.items
             ≡ (if is_none result
-            then (next self.old.image.code (seen self.old cells.old.words.items)).cells
+            then (next self.old.image.code (processor_state self.old cells.old.words.items)).cells
             else cells.old.words.items) }
     {
         step(&mut self.core, self.image.code(), cells)
@@ -91,9 +91,9 @@ impl Processor {
 
     /// Undoes a step that was made.
     pub(crate) fn step_back(&mut self, cells: &mut Common)
-        requires made { IsNext self.old.image.code (seen self.old cells.old.words.items) }
+        requires made { IsNext self.old.image.code (processor_state self.old cells.old.words.items) }
         ensures undoes { (m : State) → IsState m → stop self.old.image.code m ≡ None
-            → seen self.old cells.old.words.items ≡ next self.old.image.code m
+            → processor_state self.old cells.old.words.items ≡ next self.old.image.code m
             → (self.new ≡ in_state self.old m) × (cells.new.words.items ≡ m.cells) }
     {
         unstep(&mut self.core, self.image.code(), cells);

@@ -8,8 +8,8 @@ use Rattle.pisa_isa.specs.rpp_words.Words.{IsWord}
 use Rattle.pisa_image.specs.declared.error.ImageError.{ImageError}
 use Rattle.pisa_image.specs.declared.error.NumberError.{NumberError}
 use Rattle.pisa_image.specs.declared.error.ImageError.TheVariants.{NotOneToOne, ImageField}
-use Rattle.pisa_image.specs.Numbers.{◌>>=◌, refused_as, word_bytes, word_at}
-use Rattle.pisa_image.specs.Rows.{number_of, row_with}
+use Rattle.pisa_image.specs.Numbers.{◌>>=◌, refused_as, word_bytes, read_word_at}
+use Rattle.pisa_image.specs.Rows.{row_number, row_with}
 use Rattle.pisa_image.specs.ImageBytes.{cell_bytes}
 use Rattle.pisa_image.specs.Reading.{number_refusal, byte_below, tested_word, row_or, row_at, fields_at, cell_at}
 use Rattle.pisa_isa.proofs.Ranges.{imm_word}
@@ -41,10 +41,10 @@ pub tested_takes : (passes : ℕ → Bool) (refusal : ImageError) (at : ℕ) (by
     → tested_word passes refusal at bytes ≡ Ok x
     → Takes bytes (word_bytes x.0) x.1 × IsWord x.0 × (passes x.0 ≡ true)
 tested_takes passes refusal at bytes x fits e =
-    let a = bind_ok (refused_as number_refusal (word_at at bytes))
+    let a = bind_ok (refused_as number_refusal (read_word_at at bytes))
     (λ number. cond (passes number.0) (Ok number) (Err refusal)) x e in
     let g = passed (passes a.0.0) refusal a.0 x a.2 in
-    let t = word_takes at bytes a.0 fits (read_as number_refusal (word_at at bytes) a.0 a.1) in
+    let t = word_takes at bytes a.0 fits (read_as number_refusal (read_word_at at bytes) a.0 a.1) in
     subst (λ (y : ℕ × List ℕ). Takes bytes (word_bytes y.0) y.1 × IsWord y.0 × (passes y.0 ≡ true)) g.1 (t.0, t.1, g.0)
 
 pub tested_again : (passes : ℕ → Bool) (refusal : ImageError) (at n : ℕ) (rest : List ℕ) → IsWord n → passes n ≡ true
@@ -62,14 +62,14 @@ row_is refusal (Some op) rest x e = let same : (op, rest) ≡ x = ok_is (op, res
     (ap (λ (y : Op × List ℕ). Some y.0) same, ap (λ (y : Op × List ℕ). y.1) same)
 
 row_takes : (at : ℕ) (bytes : List ℕ) (x : Op × List ℕ) → IsBytes bytes → row_at at bytes ≡ Ok x
-    → Takes bytes (number_of x.0 ∷ []) x.1
+    → Takes bytes (row_number x.0 ∷ []) x.1
 row_takes at [] x fits e = absurd cc
 row_takes at (b ∷ rest) x fits e =
     let g = row_is (ImageField at) (row_with b) rest x e in
-    let number : b ≡ number_of x.0 = row_found b x.0 g.0 in
+    let number : b ≡ row_number x.0 = row_found b x.0 g.0 in
     record { parts = rw (number, g.1) refl; rest_fits = subst IsBytes g.1 (behind b rest fits) }
 
-row_read : (at : ℕ) (op : Op) (rest : List ℕ) → row_at at (number_of op ∷ rest) ≡ Ok (op, rest)
+row_read : (at : ℕ) (op : Op) (rest : List ℕ) → row_at at (row_number op ∷ rest) ≡ Ok (op, rest)
 row_read at op rest = ap (λ o. row_or (ImageField at) o rest) (row_again op)
 
 -- the other fields
@@ -145,9 +145,9 @@ cell_takes at bytes x fits e =
     let g = passed (is_one_to_one b.0.0) (NotOneToOne at) b.0 x b.2 in
     let row = row_takes at bytes a.0 fits a.1 in
     let fields = fields_take at a.0.0 a.0.1 b.0 row.rest_fits b.1 in
-    let both = takes_then bytes (number_of a.0.0 ∷ []) a.0.1 (field_bytes b.0.0) b.0.1 row fields.takes in
+    let both = takes_then bytes (row_number a.0.0 ∷ []) a.0.1 (field_bytes b.0.0) b.0.1 row fields.takes in
     let whole : Takes bytes (cell_bytes b.0.0) b.0.1 = subst
-    (λ (op : Op). Takes bytes (number_of op ∷ field_bytes b.0.0) b.0.1) (sym fields.same_row) both in
+    (λ (op : Op). Takes bytes (row_number op ∷ field_bytes b.0.0) b.0.1) (sym fields.same_row) both in
     subst (λ (y : Cell × List ℕ). Takes bytes (cell_bytes y.0) y.1 × IsCell y.0) g.1
     (whole, record { in_range = fields.ranges; one_to_one = g.0 })
 

@@ -10,9 +10,9 @@ use Rattle.pisa_isa.specs.declared.cell.Op.TheVariants.{Norx, Sltx, Andix, Orix,
 use Rattle.pisa_isa.specs.declared.cell.Op.TheVariants.{Exch, Swapbr, Bra, Rbra, Beq, Bne, Bgez, Bgtz, Blez, Bltz}
 use Rattle.pisa_isa.specs.declared.cell.Op.TheVariants.{Start, Finish, DataWord}
 use Rattle.pisa_isa.specs.declared.cell.TheConstants.{ROWS}
-use Rattle.pisa_image.specs.Rows.{number_of, row_in, row_with}
+use Rattle.pisa_image.specs.Rows.{row_number, row_in, row_with}
 
-pub row_again : (op : Op) → row_with (number_of op) ≡ Some op
+pub row_again : (op : Op) → row_with (row_number op) ≡ Some op
 row_again Add = refl
 row_again Sub = refl
 row_again Xor = refl
@@ -51,11 +51,11 @@ row_again DataWord = refl
 
 -- rows whose numbers count up from n
 record Numbered (n : ℕ) (rows : List Op) : Type 0 where
-  at_place : (k : ℕ) (op : Op) → slice_get rows k ≡ Some op → number_of op ≡ k + n
+  at_place : (k : ℕ) (op : Op) → slice_get rows k ≡ Some op → row_number op ≡ k + n
 
 count_up : ℕ → List Op → Bool
 count_up n [] = true
-count_up n (op ∷ rows) = nat_eq (number_of op) n && count_up (suc n) rows
+count_up n (op ∷ rows) = nat_eq (row_number op) n && count_up (suc n) rows
 
 numbered : (n : ℕ) (rows : List Op) → count_up n rows ≡ true → Numbered n rows
 unfolding count_up
@@ -65,14 +65,14 @@ numbered n [] e = record { at_place = λ k op s. absurd (nothing k op s) }
     nothing zero op s = cc
     nothing (suc k) op s = cc
 numbered n (op ∷ rows) e =
-    let g = and_parts (nat_eq (number_of op) n) (count_up (suc n) rows) e in
+    let g = and_parts (nat_eq (row_number op) n) (count_up (suc n) rows) e in
     let rest = numbered (suc n) rows g.1 in
-    record { at_place = λ k x s. here k x s (eqb-true (number_of op) n g.0) rest }
+    record { at_place = λ k x s. here k x s (eqb-true (row_number op) n g.0) rest }
   where
-    here : (k : ℕ) (x : Op) → slice_get (op ∷ rows) k ≡ Some x → number_of op ≡ n → Numbered (suc n) rows
-        → number_of x ≡ k + n
-    here zero x s first rest = let same : op ≡ x = cc in omega (arith, ap number_of same)
-    here (suc k) x s first rest = let found : number_of x ≡ k + suc n = rest.at_place k x s in omega arith
+    here : (k : ℕ) (x : Op) → slice_get (op ∷ rows) k ≡ Some x → row_number op ≡ n → Numbered (suc n) rows
+        → row_number x ≡ k + n
+    here zero x s first rest = let same : op ≡ x = cc in omega (arith, ap row_number same)
+    here (suc k) x s first rest = let found : row_number x ≡ k + suc n = rest.at_place k x s in omega arith
 
 in_order : Numbered 1 ROWS
 unfolding count_up
@@ -82,11 +82,11 @@ tested : (b : Bool) (o : Option Op) (op : Op) → cond b None o ≡ Some op → 
 tested true o op e = absurd cc
 tested false o op e = (refl, e)
 
-pub row_found : (n : ℕ) (op : Op) → row_with n ≡ Some op → n ≡ number_of op
+pub row_found : (n : ℕ) (op : Op) → row_with n ≡ Some op → n ≡ row_number op
 row_found n op e =
     let g = tested (nat_eq n 0) (slice_get ROWS (n - 1)) op e in
     let not_zero : n ≡ 0 → ⊥ = λ z. false_from_eqb n z g.0 in
-    let number : number_of op ≡ (n - 1) + 1 = in_order.at_place (n - 1) op g.1 in
+    let number : row_number op ≡ (n - 1) + 1 = in_order.at_place (n - 1) op g.1 in
     omega (arith, not_zero)
   where
     false_from_eqb : (n : ℕ) → n ≡ 0 → nat_eq n 0 ≡ false → ⊥

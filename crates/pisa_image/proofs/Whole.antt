@@ -24,10 +24,10 @@ use Rattle.pisa_image.specs.declared.reading.TheConstants.{MARK, VERSION, OLD_VE
 use Rattle.pisa_image.specs.declared.error.ImageError.{ImageError}
 use Rattle.pisa_image.specs.declared.error.ImageError.TheVariants.{NoStart, NoFinish, ImageMagic}
 use Rattle.pisa_image.specs.declared.error.ImageError.TheVariants.{ImageTrailing, NoMemory}
-use Rattle.pisa_image.specs.Numbers.{◌>>=◌, refused_as, word_bytes, words_bytes, word_at, words_at}
+use Rattle.pisa_image.specs.Numbers.{◌>>=◌, refused_as, word_bytes, words_bytes, read_word_at, words_at}
 use Rattle.pisa_image.specs.ImageBytes.{cell_bytes, header_bytes, segment_bytes, notes_bytes, image_bytes}
 use Rattle.pisa_image.specs.ImageBytes.{old_image_bytes, AreBytesOf}
-use Rattle.pisa_image.specs.Reading.{Gives, Fails, tested_word, number_between, cell_at, cells_at, header_at, segments}
+use Rattle.pisa_image.specs.Reading.{ImageGives, ImageFails, tested_word, number_between, cell_at, cells_at, header_at, segments}
 use Rattle.pisa_image.specs.Reading.{segments_at, notes_of, notes_at, ended, sealed, noted, noted_at, image_at}
 use Rattle.pisa_image.specs.Reading.{number_refusal, is_of_counts, as_image_error}
 use Rattle.pisa_image.proofs.Many.{IsBytes, Takes, takes_then, bind_ok, ok_is, many_take, many_again}
@@ -112,7 +112,7 @@ segments_take cells statics bytes x fits e =
     let b = bind_ok (refused_as number_refusal (words_at statics from a.0.1))
     (λ words. Ok (segments a.0.0 words.0, words.1)) x a.2 in
     let code = many_take cell_at 8 cell_bytes IsCell cell_takes cells 16 bytes a.0 fits a.1 in
-    let words = many_take word_at 4 word_bytes IsWord word_takes statics from a.0.1 b.0 code.0.rest_fits
+    let words = many_take read_word_at 4 word_bytes IsWord word_takes statics from a.0.1 b.0 code.0.rest_fits
     (read_as number_refusal (words_at statics from a.0.1) b.0 b.1) in
     let made : Segments × List ℕ = (segments a.0.0 b.0.0, b.0.1) in
     subst (HasSegments cells statics bytes) (ok_is made x b.2) (record {
@@ -129,7 +129,7 @@ unfolding segments_at
 segments_again code statics rest are_cells are_words =
     let from : ℕ = 16 + 8 * length code in
     let words : words_at (length statics) from (words_bytes statics ++ rest) ≡ Ok (statics, rest) =
-    many_again word_at 4 word_bytes IsWord word_again statics from rest are_words in
+    many_again read_word_at 4 word_bytes IsWord word_again statics from rest are_words in
     rw (many_again cell_at 8 cell_bytes IsCell cell_again code 16 (words_bytes statics ++ rest) are_cells, words) refl
 
 -- the seal
@@ -147,7 +147,7 @@ judged starts finishes image = cond starts (cond finishes (Ok image) (Err NoFini
 
 record IsCounted (starts finishes : Bool) (image : Segments) (refusal : SealError) : Type 0 where
   counted : is_of_counts refusal ≡ true
-  same : Fails (as_image_error refusal) (judged starts finishes image)
+  same : ImageFails (as_image_error refusal) (judged starts finishes image)
 
 counts_refuse : (starts finishes : Bool) (image : Segments) (refusal : SealError)
     → refused starts finishes ≡ Some refusal → IsCounted starts finishes image refusal
@@ -165,7 +165,7 @@ counts_refuse false finishes image refusal e = let same : the_start ≡ refusal 
 
 pub is_refused : (code : List Cell) (statics : List ℕ) (refusal : SealError) → All IsCell code
     → first_seal_refusal code ≡ Some refusal
-    → (is_of_counts refusal ≡ true) × Fails (as_image_error refusal) (sealed (segments code statics))
+    → (is_of_counts refusal ≡ true) × ImageFails (as_image_error refusal) (sealed (segments code statics))
 is_refused code statics refusal cells e =
     let h = counts_refuse (nat_eq (count_by is_start code) 1) (nat_eq (count_by is_finish code) 1)
     (segments code statics) refusal (sym (by_counts code cells) ∙ e) in
@@ -342,13 +342,13 @@ old_again image i words =
 
 -- for the contract of the reader
 
-pub is_found : (bytes : List ℕ) (r : Result NotedImage ImageError) → IsBytes bytes → Gives (λ n. n) r (image_at bytes)
+pub is_found : (bytes : List ℕ) (r : Result NotedImage ImageError) → IsBytes bytes → ImageGives (λ n. n) r (image_at bytes)
     → IfOk r (λ n. AreBytesOf n bytes)
 is_found bytes (Ok x) fits given = image_takes bytes x fits given
 is_found bytes (Err e) fits given = tt
 
 -- a refusal within is a refusal of the whole
 pub fails_with : {X Y : Type 0} (e : ImageError) (inner : Result X ImageError) (whole : Result Y ImageError)
-    → ((r : ImageError) → inner ≡ Err r → whole ≡ Err r) → Fails e inner → Fails e whole
+    → ((r : ImageError) → inner ≡ Err r → whole ≡ Err r) → ImageFails e inner → ImageFails e whole
 fails_with NoMemory inner whole go f = tt
 fails_with e inner whole go f = go e f

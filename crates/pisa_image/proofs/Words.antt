@@ -9,12 +9,12 @@ use Rattle.std.proofs.lemmas.Nat.{le_bytes_4, from_le_bytes-to_le_bytes_4}
 use Rattle.pisa_isa.specs.rpp_words.Words.{IsWord}
 use Rattle.pisa_image.specs.declared.error.NumberError.{NumberError}
 use Rattle.pisa_image.specs.declared.error.NumberError.TheVariants.{Cut, NoMemory}
-use Rattle.pisa_image.specs.Numbers.{refused_as, word_bytes, word_at, Fails}
+use Rattle.pisa_image.specs.Numbers.{refused_as, word_bytes, read_word_at, NumberFails}
 use Rattle.pisa_image.proofs.Many.{IsBytes, Takes, TakesItsText, ReadsAgain}
 
 -- a refusal within is a refusal of the whole
 pub fails_with : {X Y : Type 0} (e : NumberError) (inner : Result X NumberError) (whole : Result Y NumberError)
-    → ((r : NumberError) → inner ≡ Err r → whole ≡ Err r) → Fails e inner → Fails e whole
+    → ((r : NumberError) → inner ≡ Err r → whole ≡ Err r) → NumberFails e inner → NumberFails e whole
 fails_with NoMemory inner whole go f = tt
 fails_with e inner whole go f = go e f
 
@@ -41,7 +41,7 @@ guard_ok false d x y e = (refl, cc)
 word_below : (bytes : List ℕ) → IsBytes bytes → IsWord (from_le_bytes w32 bytes)
 word_below bytes fits = omega (arith, fits 0, fits 1, fits 2, fits 3)
 
-pub word_takes : TakesItsText word_at word_bytes IsWord
+pub word_takes : TakesItsText read_word_at word_bytes IsWord
 word_takes at bytes x fits e =
     let front : List ℕ = take 4 bytes in
     let read : ℕ × List ℕ = (from_le_bytes w32 front, drop 4 bytes) in
@@ -64,7 +64,7 @@ read n rest = Ok (n, rest)
 same_read : (a b : ℕ) (s t : List ℕ) → a ≡ b → s ≡ t → read a s ≡ read b t
 same_read a b s t p q = rw (p, q) refl
 
-pub word_again : ReadsAgain word_at word_bytes IsWord
+pub word_again : ReadsAgain read_word_at word_bytes IsWord
 word_again at n rest lt =
     let bytes : List ℕ = word_bytes n ++ rest in
     let long : ltb (length bytes) 4 ≡ false = le-ltb _ _ (omega (arith, length-append (word_bytes n) rest)) in

@@ -8,11 +8,11 @@ use Rattle.pisa_isa.specs.Image.{Segments}
 use Rattle.pisa_isa.specs.Notes.{NoteLists, NotedImage, no_notes}
 use Rattle.pisa_image.specs.declared.reading.TheConstants.{VERSION, OLD_VERSION}
 use Rattle.pisa_image.specs.Numbers.{word_bytes, words_bytes}
-use Rattle.pisa_image.specs.Rows.{number_of}
+use Rattle.pisa_image.specs.Rows.{row_number}
 
 -- eight bytes: the row's number, a, b, c and imm
 abbrev pub cell_bytes : Cell → List ℕ
-cell_bytes cell = number_of cell.op ∷ cell.a ∷ cell.b ∷ cell.c ∷ word_bytes cell.imm
+cell_bytes cell = row_number cell.op ∷ cell.a ∷ cell.b ∷ cell.c ∷ word_bytes cell.imm
 
 -- the mark of the format, a version of it, the numbers of code cells and of static cells
 abbrev pub header_bytes : (version cells statics : ℕ) → List ℕ

@@ -25,8 +25,8 @@ refused_as words (Err e) = Err (words e)
 
 -- the number at the beginning and the bytes after it, if these bytes begin at an offset; otherwise
 -- they are refused as cut at their end
-abbrev pub word_at : (at : ℕ) → List ℕ → Result (ℕ × List ℕ) NumberError
-word_at at bytes = if nat_lt (length bytes) 4 then Err (Cut (at + length bytes))
+abbrev pub read_word_at : (at : ℕ) → List ℕ → Result (ℕ × List ℕ) NumberError
+read_word_at at bytes = if nat_lt (length bytes) 4 then Err (Cut (at + length bytes))
     else Ok (from_le_bytes w32 (take 4 bytes), drop 4 bytes)
 
 -- so many items by a reader of one, each of so many bytes, and the bytes after them
@@ -39,13 +39,13 @@ many_at one size (suc count) at bytes = do
   Ok (first.0 ∷ others.0, others.1)
 
 abbrev pub words_at : (count at : ℕ) → List ℕ → Result (List ℕ × List ℕ) NumberError
-words_at count at bytes = many_at word_at 4 count at bytes
+words_at count at bytes = many_at read_word_at 4 count at bytes
 
 -- what a function returned, seen by `view`, is what reading gives, unless memory ran out
-abbrev pub Fails : {Y : Type 0} → NumberError → Result Y NumberError → Type 0
-Fails NoMemory read = Unit {0}
-Fails refusal read = read ≡ Err refusal
+abbrev pub NumberFails : {Y : Type 0} → NumberError → Result Y NumberError → Type 0
+NumberFails NoMemory read = Unit {0}
+NumberFails refusal read = read ≡ Err refusal
 
-abbrev pub Gives : {X Y : Type 0} → (X → Y) → Result X NumberError → Result Y NumberError → Type 0
-Gives view (Ok x) read = read ≡ Ok (view x)
-Gives view (Err e) read = Fails e read
+abbrev pub NumberGives : {X Y : Type 0} → (X → Y) → Result X NumberError → Result Y NumberError → Type 0
+NumberGives view (Ok x) read = read ≡ Ok (view x)
+NumberGives view (Err e) read = NumberFails e read

@@ -25,17 +25,17 @@ use Rattle.pisa_image.specs.declared.error.ImageError.TheVariants.{ImageField, I
 use Rattle.pisa_image.specs.declared.error.ImageError.TheVariants.{NoMemory}
 use Rattle.pisa_image.specs.declared.error.NumberError.{NumberError}
 use Rattle.pisa_image.specs.declared.error.NumberError.TheVariants as number
-use Rattle.pisa_image.specs.Numbers.{◌>>=◌, refused_as, word_at, many_at, words_at}
+use Rattle.pisa_image.specs.Numbers.{◌>>=◌, refused_as, read_word_at, many_at, words_at}
 use Rattle.pisa_image.specs.Rows.{row_with}
 
 -- what a function returned, seen by `view`, is what reading gives, unless memory ran out
-abbrev pub Fails : {Y : Type 0} → ImageError → Result Y ImageError → Type 0
-Fails NoMemory read = Unit {0}
-Fails refusal read = read ≡ Err refusal
+abbrev pub ImageFails : {Y : Type 0} → ImageError → Result Y ImageError → Type 0
+ImageFails NoMemory read = Unit {0}
+ImageFails refusal read = read ≡ Err refusal
 
-abbrev pub Gives : {X Y : Type 0} → (X → Y) → Result X ImageError → Result Y ImageError → Type 0
-Gives view (Ok x) read = read ≡ Ok (view x)
-Gives view (Err e) read = Fails e read
+abbrev pub ImageGives : {X Y : Type 0} → (X → Y) → Result X ImageError → Result Y ImageError → Type 0
+ImageGives view (Ok x) read = read ≡ Ok (view x)
+ImageGives view (Err e) read = ImageFails e read
 
 -- an image that ends within a number
 abbrev pub number_refusal : NumberError → ImageError
@@ -53,7 +53,7 @@ byte_below at end (byte ∷ rest) = if nat_lt byte end then Ok (byte, rest) else
 abbrev pub tested_word : (passes : ℕ → Bool) → ImageError → (at : ℕ) → List ℕ
     → Result (ℕ × List ℕ) ImageError
 tested_word passes refusal at bytes =
-    refused_as number_refusal (word_at at bytes) >>= λ number. if passes number.0 then Ok number
+    refused_as number_refusal (read_word_at at bytes) >>= λ number. if passes number.0 then Ok number
     else Err refusal
 
 -- the number of a row

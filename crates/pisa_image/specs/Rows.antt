@@ -9,42 +9,42 @@ use Rattle.pisa_isa.specs.declared.cell.Op.TheVariants.{Blez, Bltz, Start, Finis
 use Rattle.pisa_isa.specs.declared.cell.TheConstants.{ROWS}
 
 -- the number by which a file names a row
-abbrev pub number_of : Op → ℕ
-number_of Add = 1
-number_of Sub = 2
-number_of Xor = 3
-number_of Neg = 4
-number_of Addi = 5
-number_of Xori = 6
-number_of Rl = 7
-number_of Rr = 8
-number_of Rlv = 9
-number_of Rrv = 10
-number_of Andx = 11
-number_of Orx = 12
-number_of Norx = 13
-number_of Sltx = 14
-number_of Andix = 15
-number_of Orix = 16
-number_of Sllx = 17
-number_of Srlx = 18
-number_of Srax = 19
-number_of Sllvx = 20
-number_of Srlvx = 21
-number_of Sravx = 22
-number_of Exch = 23
-number_of Swapbr = 24
-number_of Bra = 25
-number_of Rbra = 26
-number_of Beq = 27
-number_of Bne = 28
-number_of Bgez = 29
-number_of Bgtz = 30
-number_of Blez = 31
-number_of Bltz = 32
-number_of Start = 33
-number_of Finish = 34
-number_of DataWord = 35
+abbrev pub row_number : Op → ℕ
+row_number Add = 1
+row_number Sub = 2
+row_number Xor = 3
+row_number Neg = 4
+row_number Addi = 5
+row_number Xori = 6
+row_number Rl = 7
+row_number Rr = 8
+row_number Rlv = 9
+row_number Rrv = 10
+row_number Andx = 11
+row_number Orx = 12
+row_number Norx = 13
+row_number Sltx = 14
+row_number Andix = 15
+row_number Orix = 16
+row_number Sllx = 17
+row_number Srlx = 18
+row_number Srax = 19
+row_number Sllvx = 20
+row_number Srlvx = 21
+row_number Sravx = 22
+row_number Exch = 23
+row_number Swapbr = 24
+row_number Bra = 25
+row_number Rbra = 26
+row_number Beq = 27
+row_number Bne = 28
+row_number Bgez = 29
+row_number Bgtz = 30
+row_number Blez = 31
+row_number Bltz = 32
+row_number Start = 33
+row_number Finish = 34
+row_number DataWord = 35
 
 -- the row with a number, if the rows are numbered from 1 on
 abbrev pub row_in : List Op → ℕ → Option Op

@@ -5,7 +5,7 @@ ghost use Rattle.std.specs.Char.{is_ascii_alphabetic};
 ghost use Rattle.pisa_isa.specs.rpp_words.declared.input.TheConstants.{FIXED_CELLS};
 ghost use Rattle.pisa_isa.specs.rpp_words.Names.{is_name_byte};
 ghost use Rattle.pisa_isa.specs.Notes.{NoteLists, is_name, mark_fits, name_fits, names_fit, notes_fit};
-ghost use Rattle.pisa_image.specs.Reading.{Gives, number_between, tested_byte, mark_at, marks_at, text_from as text_behind, text_at, name_at, names_at, notes_at, notes_of};
+ghost use Rattle.pisa_image.specs.Reading.{ImageGives, number_between, tested_byte, mark_at, marks_at, text_from as text_behind, text_at, name_at, names_at, notes_at, notes_of};
 
 use crate::error::ImageError;
 use crate::reading::{OLD_VERSION, number_between};
@@ -27,7 +27,7 @@ pub(crate) fn notes_of(
 ) -> Result<(Notes, u32, &[u8]), ImageError>
     requires cells { cells ≤ MOST_CELLS }
     requires statics { statics ≤ MOST_STATICS }
-    ensures read { Gives (λ x. (x.0, x.1, x.2.now)) result
+    ensures read { ImageGives (λ x. (x.0, x.1, x.2.now)) result
         (notes_of version cells statics (16 + 8 * cells + 4 * statics) bytes.now) }
     ensures fit { IfOk result (λ x. IsTrue (notes_fit cells statics x.0)) }
 {
@@ -53,7 +53,7 @@ fn notes_at(
     requires cells { cells ≤ MOST_CELLS }
     requires statics { statics ≤ MOST_STATICS }
     requires at { at < 2 ^ 28 }
-    ensures read { Gives (λ x. (x.0, x.1, x.2.now)) result (notes_at cells statics at bytes.now) }
+    ensures read { ImageGives (λ x. (x.0, x.1, x.2.now)) result (notes_at cells statics at bytes.now) }
     ensures fit { IfOk result (λ x. IsTrue (notes_fit cells statics x.0)) }
 {
     let (count, rest) = number_between(0, MOST_MARKS as u32, at, bytes)?;
@@ -75,7 +75,7 @@ fn marks_at(
     requires cells { cells ≤ MOST_CELLS }
     requires count { count ≤ MOST_MARKS }
     requires from { from < 2 ^ 29 }
-    ensures read { Gives (λ x. (x.0.items, x.1.now)) result (marks_at cells count from bytes.now) }
+    ensures read { ImageGives (λ x. (x.0.items, x.1.now)) result (marks_at cells count from bytes.now) }
     ensures fit { IfOk result (λ x. IsTrue (list_all (mark_fits cells) x.0.items)) }
     ensures len { IfOk result (λ x. length x.0.items ≡ count) }
 {
@@ -94,7 +94,7 @@ fn marks_at(
 #[tactic(auto, unfolding(crate::specs::Reading::mark_at))]
 fn mark_at(cells: u32, at: u32, bytes: &[u8]) -> Result<(Mark, &[u8]), ImageError>
     requires { at < 2 ^ 30 }
-    ensures { Gives (λ x. (x.0, x.1.now)) result (mark_at cells at bytes.now) }
+    ensures { ImageGives (λ x. (x.0, x.1.now)) result (mark_at cells at bytes.now) }
 {
     let (first, rest) = number_between(0, cells, at, bytes)?;
     let (end, rest) = number_between(first, cells, at + 4, rest)?;
@@ -120,7 +120,7 @@ fn names_at(
     requires statics { statics ≤ MOST_STATICS }
     requires count { count ≤ MOST_NAMES }
     requires from { from < 2 ^ 29 }
-    ensures read { Gives (λ x. (x.0.items, x.1, x.2.now)) result
+    ensures read { ImageGives (λ x. (x.0.items, x.1, x.2.now)) result
         (names_at statics MOST_NAME_BYTES count from bytes.now) }
     ensures fit { IfOk result (λ x. IsTrue (names_fit statics MOST_NAME_BYTES x.0.items)) }
     ensures len { IfOk result (λ x. length x.0.items ≡ count) }
@@ -151,7 +151,7 @@ fn name_at(
     requires statics { statics ≤ MOST_STATICS }
     requires left { left ≤ MOST_NAME_BYTES }
     requires at { at < 2 ^ 30 }
-    ensures read { Gives (λ x. (x.0, x.1.now)) result (name_at statics left at bytes.now) }
+    ensures read { ImageGives (λ x. (x.0, x.1.now)) result (name_at statics left at bytes.now) }
     ensures len { IfOk result (λ x. length x.0.text ≤ left) }
 {
     let (cell, rest) = number_between(FIXED_CELLS, FIXED_CELLS + statics - 1, at, bytes)?;
@@ -170,7 +170,7 @@ fn text_at(
     requires from { 1 ≤ count }
     requires to { count ≤ MOST_NAME_BYTES }
     requires at { at < 2 ^ 30 + 8 }
-    ensures read { Gives (λ x. (x.0, x.1.now)) result (text_at count at bytes.now) }
+    ensures read { ImageGives (λ x. (x.0, x.1.now)) result (text_at count at bytes.now) }
     ensures len { IfOk result (λ x. length x.0 ≡ count) }
 {
     let (first, rest) = letter_at(at, bytes)?;
@@ -188,7 +188,7 @@ fn text_from(
 ) -> Result<(Vec<u8>, &[u8]), ImageError>
     requires count { count ≤ MOST_NAME_BYTES }
     requires from { from < 2 ^ 30 + 16 }
-    ensures read { Gives (λ x. (x.0.items, x.1.now)) result (text_behind first count from bytes.now) }
+    ensures read { ImageGives (λ x. (x.0.items, x.1.now)) result (text_behind first count from bytes.now) }
     ensures len { IfOk result (λ x. length x.0.items ≡ count + 1) }
 {
     let mut text = Vec::new(alloc);
@@ -205,7 +205,7 @@ fn text_from(
 }
 
 fn letter_at(at: u32, bytes: &[u8]) -> Result<(u8, &[u8]), ImageError>
-    ensures { Gives (λ x. (x.0, x.1.now)) result (tested_byte is_ascii_alphabetic at bytes.now) }
+    ensures { ImageGives (λ x. (x.0, x.1.now)) result (tested_byte is_ascii_alphabetic at bytes.now) }
 {
     match bytes {
         [] => Err(ImageError::ImageTruncated { at }),
@@ -215,7 +215,7 @@ fn letter_at(at: u32, bytes: &[u8]) -> Result<(u8, &[u8]), ImageError>
 }
 
 fn name_byte_at(at: u32, bytes: &[u8]) -> Result<(u8, &[u8]), ImageError>
-    ensures { Gives (λ x. (x.0, x.1.now)) result (tested_byte is_name_byte at bytes.now) }
+    ensures { ImageGives (λ x. (x.0, x.1.now)) result (tested_byte is_name_byte at bytes.now) }
 {
     match bytes {
         [] => Err(ImageError::ImageTruncated { at }),

@@ -1,6 +1,6 @@
 // Reads numbers of four bytes, the lowest byte first.
 ghost use Rattle.std.specs.Prelude.{◌≡◌, ◌<◌, ◌^◌, vec_len, IfOk};
-ghost use Rattle.pisa_image.specs.Numbers.{Gives, word_at, words_at};
+ghost use Rattle.pisa_image.specs.Numbers.{NumberGives, read_word_at, words_at};
 
 use crate::error::NumberError;
 use std::alloc::Global;
@@ -8,7 +8,7 @@ use std::alloc::Global;
 /// The number at an offset, and the bytes after it.
 pub fn word_at(at: u32, bytes: &[u8]) -> Result<(u32, &[u8]), NumberError>
     requires { at < 2 ^ 31 }
-    ensures { Gives (λ x. (x.0, x.1.now)) result (word_at at bytes.now) }
+    ensures { NumberGives (λ x. (x.0, x.1.now)) result (read_word_at at bytes.now) }
 {
     if bytes.len() < 4 {
         return Err(NumberError::Cut {
@@ -29,7 +29,7 @@ pub fn words_at(
 ) -> Result<(Vec<u32>, &[u8]), NumberError>
     requires count { count < 2 ^ 24 }
     requires from { from < 2 ^ 30 }
-    ensures read { Gives (λ x. (x.0.items, x.1.now)) result (words_at count from bytes.now) }
+    ensures read { NumberGives (λ x. (x.0.items, x.1.now)) result (words_at count from bytes.now) }
     ensures len { IfOk result (λ x. vec_len x.0 ≡ count) }
 {
     // What is announced takes no more memory than the bytes that are there can fill.

@@ -5,7 +5,7 @@ ghost use Rattle.pisa_isa.specs.Table.{IsCell};
 ghost use Rattle.pisa_isa.specs.Image.{Segments, IsImage};
 ghost use Rattle.pisa_isa.specs.Notes.{NotedImage, no_notes, fits};
 ghost use Rattle.pisa_image.specs.ImageBytes.{image_bytes, old_image_bytes, AreBytesOf};
-ghost use Rattle.pisa_image.specs.Reading.{Gives, byte_below, row_at, fields_at, cell_at, cells_at, number_between, header_at, segments_at, ended, sealed, noted_at, image_at, segments, noted, is_of_counts, as_image_error};
+ghost use Rattle.pisa_image.specs.Reading.{ImageGives, byte_below, row_at, fields_at, cell_at, cells_at, number_between, header_at, segments_at, ended, sealed, noted_at, image_at, segments, noted, is_of_counts, as_image_error};
 
 use crate::error::ImageError;
 use crate::note_reading::notes_of;
@@ -25,24 +25,24 @@ pub const OLD_VERSION: u32 = 1;
 /// The image that the bytes are, with its notes. One of the version before has none.
 pub fn read_image(alloc: Global, bytes: &[u8]) -> Result<Noted, ImageError>
     // What it returns, the first refusal included.
-    ensures exact { Gives (λ n. n) result (image_at bytes.now) }
+    ensures exact { ImageGives (λ n. n) result (image_at bytes.now) }
     // What is read as an image is its bytes, or those without notes of the version before.
     ensures found { IfOk result (λ n. AreBytesOf n bytes.now) }
     // The bytes of an image with notes are read as it, unless memory runs out.
     ensures only { (n : NotedImage) → IsImage n.image → IsTrue (fits n.image n.notes)
         → All IsWord n.image.statics → bytes.now ≡ image_bytes n
-        → Gives (λ n. n) result (Ok n) }
+        → ImageGives (λ n. n) result (Ok n) }
     // So are those of an image of the version before.
     ensures old { (image : Segments) → IsImage image → All IsWord image.statics
         → bytes.now ≡ old_image_bytes image
-        → Gives (λ n. n) result (Ok (noted no_notes image)) }
+        → ImageGives (λ n. n) result (Ok (noted no_notes image)) }
 {
     image_of(alloc, bytes)
 }
 
 #[tactic(auto, unfolding(crate::specs::Reading::image_at))]
 fn image_of(alloc: Global, bytes: &[u8]) -> Result<Noted, ImageError>
-    ensures { Gives (λ n. n) result (image_at bytes.now) }
+    ensures { ImageGives (λ n. n) result (image_at bytes.now) }
 {
     let (version, cells, statics, rest) = header_at(bytes)?;
     let (code, words, rest) = segments_at(alloc, cells, statics, rest)?;
@@ -52,7 +52,7 @@ fn image_of(alloc: Global, bytes: &[u8]) -> Result<Noted, ImageError>
 /// The version, and the numbers of code cells and of static cells.
 #[tactic(auto, unfolding(crate::specs::Reading::header_at))]
 fn header_at(bytes: &[u8]) -> Result<(u32, u32, u32, &[u8]), ImageError>
-    ensures read { Gives (λ x. (x.0, x.1, x.2, x.3.now)) result (header_at bytes.now) }
+    ensures read { ImageGives (λ x. (x.0, x.1, x.2, x.3.now)) result (header_at bytes.now) }
     ensures cells { IfOk result (λ x. x.1 ≤ MOST_CELLS) }
     ensures statics { IfOk result (λ x. x.2 ≤ MOST_STATICS) }
 {
@@ -76,7 +76,7 @@ fn segments_at(
 ) -> Result<(Vec<Cell>, Vec<u32>, &[u8]), ImageError>
     requires cells { cells ≤ MOST_CELLS }
     requires statics { statics ≤ MOST_STATICS }
-    ensures read { Gives (λ x. (segments x.0.items x.1.items, x.2.now)) result
+    ensures read { ImageGives (λ x. (segments x.0.items x.1.items, x.2.now)) result
         (segments_at cells statics bytes.now) }
     ensures cells { IfOk result (λ x. All IsCell x.0.items) }
     ensures code { IfOk result (λ x. vec_len x.0 ≡ cells) }
@@ -99,7 +99,7 @@ fn noted_at(
     requires cells { All IsCell code.items }
     requires code_in_limit { vec_len code ≤ MOST_CELLS }
     requires statics_in_limit { vec_len words ≤ MOST_STATICS }
-    ensures { Gives (λ n. n) result
+    ensures { ImageGives (λ n. n) result
         (noted_at version (vec_len code) (vec_len words) (segments code.items words.items)
         bytes.now) }
 {
@@ -113,7 +113,7 @@ fn noted_at(
 
 /// The notes, if nothing follows them.
 fn ended(notes: Notes, at: u32, rest: &[u8]) -> Result<Notes, ImageError>
-    ensures { Gives (λ n. n) result (ended notes at rest.now) }
+    ensures { ImageGives (λ n. n) result (ended notes at rest.now) }
 {
     if !rest.is_empty() {
         return Err(ImageError::ImageTrailing { at });
@@ -126,7 +126,7 @@ fn sealed(code: Vec<Cell>, statics: Vec<u32>) -> Result<Image, ImageError>
     requires cells { All IsCell code.items }
     requires code_in_limit { vec_len code ≤ MOST_CELLS }
     requires statics_in_limit { vec_len statics ≤ MOST_STATICS }
-    ensures { Gives (λ image. image) result (sealed (segments code.items statics.items)) }
+    ensures { ImageGives (λ image. image) result (sealed (segments code.items statics.items)) }
 {
     match Image::seal(code, statics) {
         Ok(image) => Ok(image),
@@ -149,7 +149,7 @@ fn count_refusal(refusal: SealError) -> ImageError
 /// So many code cells.
 fn cells_at(alloc: Global, count: u32, bytes: &[u8]) -> Result<(Vec<Cell>, &[u8]), ImageError>
     requires { count ≤ MOST_CELLS }
-    ensures read { Gives (λ x. (x.0.items, x.1.now)) result (cells_at count 16 bytes.now) }
+    ensures read { ImageGives (λ x. (x.0.items, x.1.now)) result (cells_at count 16 bytes.now) }
     ensures cells { IfOk result (λ x. All IsCell x.0.items) }
     ensures len { IfOk result (λ x. vec_len x.0 ≡ count) }
 {
@@ -170,7 +170,7 @@ fn cells_at(alloc: Global, count: u32, bytes: &[u8]) -> Result<(Vec<Cell>, &[u8]
 #[tactic(auto, unfolding(crate::specs::Reading::cell_at))]
 fn cell_at(at: u32, bytes: &[u8]) -> Result<(Cell, &[u8]), ImageError>
     requires { at < 2 ^ 30 }
-    ensures { Gives (λ x. (x.0, x.1.now)) result (cell_at at bytes.now) }
+    ensures { ImageGives (λ x. (x.0, x.1.now)) result (cell_at at bytes.now) }
 {
     let (op, rest) = row_at(at, bytes)?;
     let (cell, rest) = fields_at(at, op, rest)?;
@@ -182,7 +182,7 @@ fn cell_at(at: u32, bytes: &[u8]) -> Result<(Cell, &[u8]), ImageError>
 
 /// The row of the cell that begins at a place.
 fn row_at(at: u32, bytes: &[u8]) -> Result<(Op, &[u8]), ImageError>
-    ensures { Gives (λ x. (x.0, x.1.now)) result (row_at at bytes.now) }
+    ensures { ImageGives (λ x. (x.0, x.1.now)) result (row_at at bytes.now) }
 {
     match bytes {
         [] => Err(ImageError::ImageTruncated { at }),
@@ -197,7 +197,7 @@ fn row_at(at: u32, bytes: &[u8]) -> Result<(Op, &[u8]), ImageError>
 #[tactic(auto, unfolding(crate::specs::Reading::fields_at))]
 fn fields_at(at: u32, op: Op, bytes: &[u8]) -> Result<(Cell, &[u8]), ImageError>
     requires { at < 2 ^ 30 }
-    ensures { Gives (λ x. (x.0, x.1.now)) result (fields_at at op bytes.now) }
+    ensures { ImageGives (λ x. (x.0, x.1.now)) result (fields_at at op bytes.now) }
 {
     let (a, rest) = byte_below(at + 1, a_end(op), bytes)?;
     let (b, rest) = byte_below(at + 2, b_end(op), rest)?;
@@ -211,7 +211,7 @@ fn fields_at(at: u32, op: Op, bytes: &[u8]) -> Result<(Cell, &[u8]), ImageError>
 
 /// The byte at a place, which must be below an end.
 fn byte_below(at: u32, end: u8, bytes: &[u8]) -> Result<(u8, &[u8]), ImageError>
-    ensures { Gives (λ x. (x.0, x.1.now)) result (byte_below at end bytes.now) }
+    ensures { ImageGives (λ x. (x.0, x.1.now)) result (byte_below at end bytes.now) }
 {
     match bytes {
         [] => Err(ImageError::ImageTruncated { at }),
@@ -228,7 +228,7 @@ pub(crate) fn number_between(
     bytes: &[u8],
 ) -> Result<(u32, &[u8]), ImageError>
     requires { at < 2 ^ 31 }
-    ensures read { Gives (λ x. (x.0, x.1.now)) result (number_between low high at bytes.now) }
+    ensures read { ImageGives (λ x. (x.0, x.1.now)) result (number_between low high at bytes.now) }
     ensures from { IfOk result (λ x. low ≤ x.0) }
     ensures to { IfOk result (λ x. x.0 ≤ high) }
 {

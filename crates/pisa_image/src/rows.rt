@@ -1,12 +1,12 @@
 // The numbers of the rows of the instruction table.
 ghost use Rattle.std.specs.Prelude.{◌≡◌, slice_get};
-ghost use Rattle.pisa_image.specs.Rows.{number_of, row_in, row_with};
+ghost use Rattle.pisa_image.specs.Rows.{row_number, row_in, row_with};
 
 use pisa_isa::{Op, ROWS};
 
 /// The number of a row.
 pub(crate) fn number_of(op: Op) -> u8
-    ensures { result ≡ number_of op }
+    ensures { result ≡ row_number op }
 {
     match op {
         Op::Add => 1,

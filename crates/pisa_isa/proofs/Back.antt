@@ -11,7 +11,7 @@ use Rattle.pisa_isa.specs.declared.cell.Op.TheVariants.{Exch, Add}
 use Rattle.pisa_isa.specs.declared.cell.Cell.{Cell}
 use Rattle.pisa_isa.specs.Table.{IsCell, b_is_source, c_is_source}
 use Rattle.pisa_isa.proofs.Ranges.{a_below, b_below, imm_word}
-use Rattle.pisa_isa.specs.Machine.{State, IsState, IsCode, turned, moved, place_moved, stride, effect, effect_at, row}
+use Rattle.pisa_isa.specs.Machine.{State, IsState, IsCode, turned_state, moved, place_moved, stride, effect, effect_at, row}
 use Rattle.pisa_isa.specs.Machine.{faced, has_cell, fetch, stop, stop_at, next, back}
 use Rattle.pisa_isa.proofs.Undo.{Apart}
 use Rattle.pisa_isa.proofs.Facing.{has_cell-from_none}
@@ -29,14 +29,14 @@ place_moved-twice : (b : Bool) (p : ℤ) (br : ℕ) → place_moved (not b) (pla
 place_moved-twice true p br = back_and_there p (stride br)
 place_moved-twice false p br = there_and_back p (stride br)
 
-pub moved-twice : (m : State) → moved (turned (moved m)) ≡ turned m
+pub moved-twice : (m : State) → moved (turned_state (moved m)) ≡ turned_state m
 moved-twice m = ap (λ p. state p m.br (not m.back) m.regs m.cells) (place_moved-twice m.back m.pc m.br)
 
 pub not-not : (b : Bool) → not (not b) ≡ b
 not-not true = refl
 not-not false = refl
 
-pub turned-twice : (m : State) → turned (turned m) ≡ m
+pub turned-twice : (m : State) → turned_state (turned_state m) ≡ m
 turned-twice m = ap (λ b. state m.pc m.br b m.regs m.cells) (not-not m.back)
 
 -- the effect leaves the place
@@ -91,7 +91,7 @@ fits c m k s h =
     }
 
 pub effect_undone : (c : Cell) (m : State) → IsCell c → IsState m → has_cell c.op c.b m ≡ true
-    → effect c (turned (effect c m)) ≡ turned m
+    → effect c (turned_state (effect c m)) ≡ turned_state m
 effect_undone c m k s h = effect-twice c.op c.a c.b c.c c.imm m.pc m.br m.back m.regs m.cells (fits c m k s h)
 
 pub IsCell-fetch : (code : List Cell) (p : ℤ) (c : Cell) → IsCode code → fetch code p ≡ Some c → IsCell c
@@ -106,12 +106,12 @@ undo_at : (code : List Cell) (m : State) (o : Option Cell) → fetch code m.pc �
 undo_at code m None e k s h = absurd (cc)
 undo_at code m (Some c) e k s h =
     let next_is : next code m ≡ moved (effect c m) = ap (λ o. moved (effect_at o m)) e in
-    let before : moved (turned (next code m)) ≡ turned (effect c m) = ap (λ x. moved (turned x)) next_is
+    let before : moved (turned_state (next code m)) ≡ turned_state (effect c m) = ap (λ x. moved (turned_state x)) next_is
     ∙ moved-twice (effect c m) in
-    let there : fetch code (turned (effect c m)).pc ≡ Some c = ap (fetch code) (effect-pc c m) ∙ e in
-    ap (λ u. turned (effect_at (fetch code u.pc) u)) before
-    ∙ ap (λ o. turned (effect_at o (turned (effect c m)))) there
-    ∙ ap turned (effect_undone c m (IsCell-fetch code m.pc c k e) s (has_cell-from_none c.op c m h))
+    let there : fetch code (turned_state (effect c m)).pc ≡ Some c = ap (fetch code) (effect-pc c m) ∙ e in
+    ap (λ u. turned_state (effect_at (fetch code u.pc) u)) before
+    ∙ ap (λ o. turned_state (effect_at o (turned_state (effect c m)))) there
+    ∙ ap turned_state (effect_undone c m (IsCell-fetch code m.pc c k e) s (has_cell-from_none c.op c m h))
     ∙ turned-twice m
 
 pub back-next : (code : List Cell) (m : State) → IsCode code → IsState m → stop code m ≡ None
@@ -121,17 +121,17 @@ back-next code m k s h = undo_at code m (fetch code m.pc) refl k s h
 -- a step that is no stop, met from its other end, leads to the state met from its other end
 reversed_at : (code : List Cell) (m : State) (o : Option Cell) → fetch code m.pc ≡ o → IsCode code → IsState m
     → stop_at o m ≡ None
-    → next code (moved (turned (next code m))) ≡ moved (turned m)
+    → next code (moved (turned_state (next code m))) ≡ moved (turned_state m)
 reversed_at code m None e k s h = absurd (cc)
 reversed_at code m (Some c) e k s h =
     let next_is : next code m ≡ moved (effect c m) = ap (λ o. moved (effect_at o m)) e in
-    let before : moved (turned (next code m)) ≡ turned (effect c m) = ap (λ x. moved (turned x)) next_is
+    let before : moved (turned_state (next code m)) ≡ turned_state (effect c m) = ap (λ x. moved (turned_state x)) next_is
     ∙ moved-twice (effect c m) in
-    let there : fetch code (turned (effect c m)).pc ≡ Some c = ap (fetch code) (effect-pc c m) ∙ e in
+    let there : fetch code (turned_state (effect c m)).pc ≡ Some c = ap (fetch code) (effect-pc c m) ∙ e in
     ap (next code) before
-    ∙ ap (λ o. moved (effect_at o (turned (effect c m)))) there
+    ∙ ap (λ o. moved (effect_at o (turned_state (effect c m)))) there
     ∙ ap moved (effect_undone c m (IsCell-fetch code m.pc c k e) s (has_cell-from_none c.op c m h))
 
 pub next-reversed : (code : List Cell) (m : State) → IsCode code → IsState m → stop code m ≡ None
-    → next code (moved (turned (next code m))) ≡ moved (turned m)
+    → next code (moved (turned_state (next code m))) ≡ moved (turned_state m)
 next-reversed code m k s h = reversed_at code m (fetch code m.pc) refl k s h

@@ -12,7 +12,7 @@ use Rattle.pisa_isa.specs.declared.cell.Op.TheVariants.{Exch, Swapbr, Bra, Rbra,
 use Rattle.pisa_isa.specs.declared.cell.Cell.{Cell}
 use Rattle.pisa_isa.specs.Table.{IsCell, b_is_source}
 use Rattle.pisa_isa.proofs.Ranges.{a_below}
-use Rattle.pisa_isa.specs.Machine.{State, IsState, IsCode, IsNext, turned, moved, place_moved, stride, effect}
+use Rattle.pisa_isa.specs.Machine.{State, IsState, IsCode, IsNext, turned_state, moved, place_moved, stride, effect}
 use Rattle.pisa_isa.specs.Machine.{effect_at, row, row_of, faced, has_cell, fetch, is_taken, stop_at, next, back}
 use Rattle.pisa_isa.proofs.Facing.{has_cell-from_none, IsCell-faced}
 use Rattle.pisa_isa.proofs.Effect.{state, cell}
@@ -26,8 +26,8 @@ pub record CameBy (code : List Cell) (m : State) : Type 0 where
   pub is_cell : IsCell cell
   pub low : pos 0 ≤ℤ (m.pc +ℤ pos (2 ^ 32))
   pub high : m.pc ≤ℤ pos (2 ^ 32)
-  pub there : fetch code (moved (turned m)).pc ≡ Some cell
-  pub found : has_cell cell.op cell.b (moved (turned m)) ≡ true
+  pub there : fetch code (moved (turned_state m)).pc ≡ Some cell
+  pub found : has_cell cell.op cell.b (moved (turned_state m)) ≡ true
 
 -- how far a move goes
 stride_bounds : (br : ℕ) → br < 2 ^ 32 → (pos 0 ≤ℤ (stride br +ℤ pos (2 ^ 31))) × (stride br ≤ℤ pos (2 ^ 31))
@@ -65,7 +65,7 @@ fetch_place code (negsuc n) c e = absurd (cc)
 -- an EXCH still has its cell afterwards
 pub has_cell-effect : (op : Op) (a b c i : ℕ) (pc : ℤ) (br : ℕ) (back : Bool) (regs cells : List ℕ)
     → (b_is_source op ≡ true → b ≢ a) → has_cell op b (state pc br back regs cells) ≡ true
-    → has_cell op b (turned (effect (cell op a b c i) (state pc br back regs cells))) ≡ true
+    → has_cell op b (turned_state (effect (cell op a b c i) (state pc br back regs cells))) ≡ true
 has_cell-effect Exch a b c i pc br true regs cells ne h =
     rw (
       get_or-set_other regs a b (get_or cells (get_or regs b 0) 0) 0 (ne refl),
@@ -84,7 +84,7 @@ came_at code m s None k ok e h n = absurd (cc)
 came_at code m s (Some c) k ok e h n =
     let is_cell : IsCell c = IsCell-fetch code s.pc c k e in
     let is : m ≡ moved (effect c s) = n ∙ ap (λ o. moved (effect_at o s)) e in
-    let before : moved (turned m) ≡ turned (effect c s) = ap (λ x. moved (turned x)) is ∙ moved-twice (effect c s) in
+    let before : moved (turned_state m) ≡ turned_state (effect c s) = ap (λ x. moved (turned_state x)) is ∙ moved-twice (effect c s) in
     let at = fetch_place code s.pc c e in
     let limit = k.in_limit in
     let high : s.pc ≤ℤ pos MOST_CELLS = omega (arith, ints) in
@@ -110,30 +110,30 @@ came_by code m k n = came_at code m (back code m) (fetch code (back code m).pc) 
 
 row-apart : (op : Op) (a b c i : ℕ) (pc p : ℤ) (br : ℕ) (back : Bool) (regs cells : List ℕ)
     → record (row op a b c i (state pc br back regs cells)) { pc = p }
-    ≡ turned (row op a b c i (state p br (not back) regs cells))
+    ≡ turned_state (row op a b c i (state p br (not back) regs cells))
 row-apart Rbra a b c i pc p br true regs cells = refl
 row-apart Rbra a b c i pc p br false regs cells = refl
 row-apart _ a b c i pc p br true regs cells = refl
 row-apart _ a b c i pc p br false regs cells = refl
 
-effect-apart : (c : Cell) (m : State) → record (row_of (faced (not m.back) c) m) { pc = (moved (turned m)).pc }
-    ≡ turned (effect c (moved (turned m)))
-effect-apart c m = let d = faced (not m.back) c in row-apart d.op d.a d.b d.c d.imm m.pc (moved (turned m)).pc m.br
+effect-apart : (c : Cell) (m : State) → record (row_of (faced (not m.back) c) m) { pc = (moved (turned_state m)).pc }
+    ≡ turned_state (effect c (moved (turned_state m)))
+effect-apart c m = let d = faced (not m.back) c in row-apart d.op d.a d.b d.c d.imm m.pc (moved (turned_state m)).pc m.br
     m.back m.regs m.cells
 
 pub stepped_back : (code : List Cell) (m : State) (c : Cell) (s : State) (p : ℤ)
-    → fetch code (moved (turned m)).pc ≡ Some c
-    → s ≡ row_of (faced (not m.back) c) m → p ≡ (moved (turned m)).pc → record s { pc = p } ≡ back code m
+    → fetch code (moved (turned_state m)).pc ≡ Some c
+    → s ≡ row_of (faced (not m.back) c) m → p ≡ (moved (turned_state m)).pc → record s { pc = p } ≡ back code m
 stepped_back code m c s p there acts place =
-    let u : State = moved (turned m) in
+    let u : State = moved (turned_state m) in
     ap (λ s. state p s.br s.back s.regs s.cells) acts
     ∙ ap (λ p. record (row_of (faced (not m.back) c) m) { pc = p }) place
     ∙ effect-apart c m
-    ∙ sym (ap (λ o. turned (effect_at o u)) there)
+    ∙ sym (ap (λ o. turned_state (effect_at o u)) there)
 
-has_cell-apart : (op : Op) (s : ℕ) (m : State) → has_cell op s (moved (turned m)) ≡ has_cell op s m
+has_cell-apart : (op : Op) (s : ℕ) (m : State) → has_cell op s (moved (turned_state m)) ≡ has_cell op s m
 has_cell-apart Exch s m = refl
 has_cell-apart _ s m = refl
 
-pub has_cell-before : (c : Cell) (m : State) → has_cell c.op c.b (moved (turned m)) ≡ true → has_cell c.op c.b m ≡ true
+pub has_cell-before : (c : Cell) (m : State) → has_cell c.op c.b (moved (turned_state m)) ≡ true → has_cell c.op c.b m ≡ true
 has_cell-before c m h = sym (has_cell-apart c.op c.b m) ∙ h

@@ -14,7 +14,7 @@ use Rattle.pisa_isa.specs.declared.cell.Op.TheVariants.{Exch, Start, Finish}
 use Rattle.pisa_isa.specs.declared.cell.Cell.{Cell}
 use Rattle.pisa_isa.specs.declared.machine.Stop.TheVariants.{Finished, Returned, BadAddress}
 use Rattle.pisa_isa.specs.Table.{inverse_op, inverse_of}
-use Rattle.pisa_isa.specs.Machine.{State, row, is_zero, fetch, stop, stop_at, stop_in}
+use Rattle.pisa_isa.specs.Machine.{State, row, is_zero_word, fetch, stop, stop_at, stop_in}
 use Rattle.pisa_isa.specs.Image.{is_start_op, is_finish_op, is_start, is_finish, start_of}
 use Rattle.pisa_isa.specs.Flipped.{flipped}
 use Rattle.pisa_isa.proofs.Sealed.{start_of-lt, some_cell}
@@ -128,7 +128,7 @@ record AtFinish (op : Op) (m : State) : Type 0 where
   forward : m.back ≡ false
   no_branch : m.br ≡ 0
 
-both_of : (b : Bool) (br : ℕ) → cond (not b && is_zero br) (Some Finished) None ≡ Some Finished → (b ≡ false) × (br ≡ 0)
+both_of : (b : Bool) (br : ℕ) → cond (not b && is_zero_word br) (Some Finished) None ≡ Some Finished → (b ≡ false) × (br ≡ 0)
 both_of true br e = absurd (cc)
 both_of false br e = (refl, grind (arith, nat_tests))
 

@@ -19,7 +19,7 @@ use Rattle.pisa_isa.specs.Table.{IsCell, new_value}
 use Rattle.pisa_isa.proofs.Ranges.{a_below, b_below, c_below, imm_word}
 use Rattle.pisa_isa.specs.Machine.{State, IsState, IsCode, IsNext, effect, row, faced, has_cell, fetch, stop, stop_at}
 use Rattle.pisa_isa.specs.Machine.{next, back}
-use Rattle.pisa_isa.specs.Runs.{steps, unless_stop, and_then, back_by, IsReached}
+use Rattle.pisa_isa.specs.Runs.{steps, unless_stop, then_state, back_by, IsReached}
 use Rattle.pisa_isa.proofs.Runs.{steps-add}
 use Rattle.pisa_isa.proofs.Facing.{has_cell-from_none, has_cell-faced, IsCell-faced}
 use Rattle.pisa_isa.proofs.CanUndo.{effect-br}
@@ -173,7 +173,7 @@ steps_more : (code : List Cell) (n : ℕ) (f m : State) → steps code n f ≡ S
 steps_more code n f m h none =
     let e : suc n ≡ n + 1 = omega arith in
     let one : steps code 1 m ≡ Some (next code m) = ap (λ o. unless_stop o (Some (next code m))) none in
-    ap (λ k. steps code k f) e ∙ steps-add code n 1 f ∙ ap (λ o. and_then o (steps code 1)) h ∙ one
+    ap (λ k. steps code k f) e ∙ steps-add code n 1 f ∙ ap (λ o. then_state o (steps code 1)) h ∙ one
 
 pub reached_after : (code : List Cell) (n : ℕ) (m : State) → IsCode code → IsReached code n m → stop code m ≡ None
     → IsReached code (suc n) (next code m)

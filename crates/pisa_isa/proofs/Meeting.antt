@@ -7,7 +7,7 @@ use Rattle.pisa_isa.specs.declared.cell.Cell.{Cell}
 use Rattle.pisa_isa.specs.declared.machine.Stop.{Stop}
 use Rattle.pisa_isa.specs.declared.machine.Stop.TheVariants.{Finished, Returned, BadAddress}
 use Rattle.pisa_isa.specs.Table.{IsCell, b_is_source, inverse_op, inverse_of}
-use Rattle.pisa_isa.specs.Machine.{State, IsCode, IsState, turned, moved, effect, effect_at, is_zero, fetch, stop}
+use Rattle.pisa_isa.specs.Machine.{State, IsCode, IsState, turned_state, moved, effect, effect_at, is_zero_word, fetch, stop}
 use Rattle.pisa_isa.specs.Machine.{stop_at, stop_in, next}
 use Rattle.pisa_isa.specs.Image.{is_start_op, is_finish_op, is_start, is_finish}
 use Rattle.pisa_isa.specs.Ends.{begins, begins_backward, cell_is}
@@ -20,7 +20,7 @@ use Rattle.pisa_isa.proofs.Mirror.{mirrored, fetch-flipped, next-mirror}
 
 -- the state at the other end of the move that led here, facing the other way, in the flipped code
 abbrev pub met : ℕ → State → State
-met n m = mirrored n (moved (turned m))
+met n m = mirrored n (moved (turned_state m))
 
 -- a run neither begins nor begins backward as it stands
 abbrev pub IsInside : List Cell → State → Type 0
@@ -33,7 +33,7 @@ pub record MadeAt (code : List Cell) (m : State) : Type 0 where
   pub is_cell : IsCell cell
   pub there : fetch code m.pc ≡ Some cell
   pub goes : stop_in cell.op cell m ≡ None
-  pub before : moved (turned (next code m)) ≡ turned (effect cell m)
+  pub before : moved (turned_state (next code m)) ≡ turned_state (effect cell m)
 
 made_at_cell : (code : List Cell) (m : State) (o : Option Cell) → fetch code m.pc ≡ o → IsCode code → stop_at o m ≡ None
     → MadeAt code m
@@ -43,7 +43,7 @@ made_at_cell code m (Some c) e k h = record {
   is_cell = IsCell-fetch code m.pc c k e;
   there = e;
   goes = h;
-  before = ap (λ o. moved (turned (moved (effect_at o m)))) e ∙ moved-twice (effect c m);
+  before = ap (λ o. moved (turned_state (moved (effect_at o m)))) e ∙ moved-twice (effect c m);
 }
 
 pub made_at : (code : List Cell) (m : State) → IsCode code → stop code m ≡ None → MadeAt code m
@@ -53,7 +53,7 @@ made_at code m k h = made_at_cell code m (fetch code m.pc) refl k h
 pub there_flipped : (code : List Cell) (m : State) (d : MadeAt code m)
     → fetch (flipped code) (met (length code) (next code m)).pc ≡ Some (inverse_of d.cell)
 there_flipped code m d =
-    fetch-flipped code (moved (turned (next code m))).pc d.cell
+    fetch-flipped code (moved (turned_state (next code m))).pc d.cell
     (ap (λ s. fetch code s.pc) d.before ∙ ap (fetch code) (effect-pc d.cell m) ∙ d.there)
 
 -- where it leads
@@ -61,7 +61,7 @@ pub next-met : (code : List Cell) (m : State) → IsCode code → IsState m → 
     → next (flipped code) (met (length code) (next code m)) ≡ met (length code) m
 next-met code m k s h =
     let d = made_at code m k h in
-    next-mirror code (moved (turned (next code m))) d.cell d.is_cell
+    next-mirror code (moved (turned_state (next code m))) d.cell d.is_cell
     (ap (λ s. fetch code s.pc) d.before ∙ ap (fetch code) (effect-pc d.cell m) ∙ d.there)
     ∙ ap (mirrored (length code)) (next-reversed code m k s h)
 
@@ -77,17 +77,17 @@ cell_from false e h = absurd (cc)
 
 -- what a run that passes a cell needs of its state, to pass it the other way
 pub record Passes (op : Op) (back : Bool) (br : ℕ) : Type 0 where
-  pub not_at_start : is_start_op op ≡ true → (not back && is_zero br) ≡ false
-  pub not_at_finish : is_finish_op op ≡ true → (back && is_zero br) ≡ false
+  pub not_at_start : is_start_op op ≡ true → (not back && is_zero_word br) ≡ false
+  pub not_at_finish : is_finish_op op ≡ true → (back && is_zero_word br) ≡ false
 
 stop_in-met : (op : Op) (a b c i n : ℕ) (pc : ℤ) (br : ℕ) (back : Bool) (regs cells : List ℕ) → Passes op back br
     → (b_is_source op ≡ true → b ≢ a)
     → stop_in op (cell op a b c i) (state pc br back regs cells) ≡ None
     → stop_in (inverse_op op) (inverse_of (cell op a b c i))
-    (mirrored n (turned (effect (cell op a b c i) (state pc br back regs cells)))) ≡ None
+    (mirrored n (turned_state (effect (cell op a b c i) (state pc br back regs cells)))) ≡ None
 stop_in-met Start a b c i n pc br true regs cells p ne h = refl
-stop_in-met Start a b c i n pc br false regs cells p ne h = stop_from (is_zero br) Finished (p.not_at_start refl)
-stop_in-met Finish a b c i n pc br true regs cells p ne h = stop_from (is_zero br) Returned (p.not_at_finish refl)
+stop_in-met Start a b c i n pc br false regs cells p ne h = stop_from (is_zero_word br) Finished (p.not_at_start refl)
+stop_in-met Finish a b c i n pc br true regs cells p ne h = stop_from (is_zero_word br) Returned (p.not_at_finish refl)
 stop_in-met Finish a b c i n pc br false regs cells p ne h = refl
 stop_in-met DataWord a b c i n pc br back regs cells p ne h = absurd (cc)
 stop_in-met Exch a b c i n pc br true regs cells p ne h =
@@ -99,8 +99,8 @@ stop_in-met Exch a b c i n pc br false regs cells p ne h =
 stop_in-met _ a b c i n pc br true regs cells p ne h = refl
 stop_in-met _ a b c i n pc br false regs cells p ne h = refl
 
-passes_of : (op : Op) (back : Bool) (br : ℕ) → ((is_start_op op && not back) && is_zero br) ≡ false
-    → ((is_finish_op op && back) && is_zero br) ≡ false → Passes op back br
+passes_of : (op : Op) (back : Bool) (br : ℕ) → ((is_start_op op && not back) && is_zero_word br) ≡ false
+    → ((is_finish_op op && back) && is_zero_word br) ≡ false → Passes op back br
 passes_of Start back br s f = record { not_at_start = λ _. s; not_at_finish = λ e. absurd (cc) }
 passes_of Finish back br s f = record { not_at_start = λ e. absurd (cc); not_at_finish = λ _. f }
 passes_of _ back br s f = record { not_at_start = λ e. absurd (cc); not_at_finish = λ e. absurd (cc) }
@@ -110,8 +110,8 @@ pub stop-met : (code : List Cell) (m : State) → IsCode code → stop code m �
 stop-met code m k h inside =
     let d = made_at code m k h in
     let c = d.cell in
-    let passes = passes_of c.op m.back m.br (ap (λ o. (cell_is is_start o && not m.back) && is_zero m.br) (sym d.there)
-    ∙ inside.0) (ap (λ o. (cell_is is_finish o && m.back) && is_zero m.br) (sym d.there) ∙ inside.1) in
+    let passes = passes_of c.op m.back m.br (ap (λ o. (cell_is is_start o && not m.back) && is_zero_word m.br) (sym d.there)
+    ∙ inside.0) (ap (λ o. (cell_is is_finish o && m.back) && is_zero_word m.br) (sym d.there) ∙ inside.1) in
     ap (λ o. stop_at o (met (length code) (next code m))) (there_flipped code m d)
     ∙ ap (λ s. stop_in (inverse_op c.op) (inverse_of c) (mirrored (length code) s)) d.before
     ∙ stop_in-met c.op c.a c.b c.c c.imm (length code) m.pc m.br m.back m.regs m.cells passes
@@ -125,13 +125,13 @@ test_from false e h = refl
 
 inside_in : (op : Op) (a b c i n : ℕ) (pc : ℤ) (br : ℕ) (back : Bool) (regs cells : List ℕ)
     → stop_in op (cell op a b c i) (state pc br back regs cells) ≡ None
-    → let s = mirrored n (turned (effect (cell op a b c i) (state pc br back regs cells))) in
-    (((is_start_op (inverse_op op) && not s.back) && is_zero s.br) ≡ false)
-    × (((is_finish_op (inverse_op op) && s.back) && is_zero s.br) ≡ false)
-inside_in Start a b c i n pc br true regs cells h = (refl, test_from (is_zero br) Returned h)
+    → let s = mirrored n (turned_state (effect (cell op a b c i) (state pc br back regs cells))) in
+    (((is_start_op (inverse_op op) && not s.back) && is_zero_word s.br) ≡ false)
+    × (((is_finish_op (inverse_op op) && s.back) && is_zero_word s.br) ≡ false)
+inside_in Start a b c i n pc br true regs cells h = (refl, test_from (is_zero_word br) Returned h)
 inside_in Start a b c i n pc br false regs cells h = (refl, refl)
 inside_in Finish a b c i n pc br true regs cells h = (refl, refl)
-inside_in Finish a b c i n pc br false regs cells h = (test_from (is_zero br) Finished h, refl)
+inside_in Finish a b c i n pc br false regs cells h = (test_from (is_zero_word br) Finished h, refl)
 inside_in _ a b c i n pc br true regs cells h = (refl, refl)
 inside_in _ a b c i n pc br false regs cells h = (refl, refl)
 
@@ -143,10 +143,10 @@ IsInside-met code m k h =
     let n = length code in
     let inside = inside_in c.op c.a c.b c.c c.imm n m.pc m.br m.back m.regs m.cells d.goes in
     let there = there_flipped code m d in (
-      ap (λ o. (cell_is is_start o && not (met n (next code m)).back) && is_zero (met n (next code m)).br) there
-          ∙ ap (λ s. (is_start_op (inverse_op c.op) && not (mirrored n s).back) && is_zero (mirrored n s).br) d.before
+      ap (λ o. (cell_is is_start o && not (met n (next code m)).back) && is_zero_word (met n (next code m)).br) there
+          ∙ ap (λ s. (is_start_op (inverse_op c.op) && not (mirrored n s).back) && is_zero_word (mirrored n s).br) d.before
           ∙ inside.0,
-      ap (λ o. (cell_is is_finish o && (met n (next code m)).back) && is_zero (met n (next code m)).br) there
-          ∙ ap (λ s. (is_finish_op (inverse_op c.op) && (mirrored n s).back) && is_zero (mirrored n s).br) d.before
+      ap (λ o. (cell_is is_finish o && (met n (next code m)).back) && is_zero_word (met n (next code m)).br) there
+          ∙ ap (λ s. (is_finish_op (inverse_op c.op) && (mirrored n s).back) && is_zero_word (mirrored n s).br) d.before
           ∙ inside.1,
     )

@@ -9,7 +9,7 @@ use Rattle.pisa_isa.specs.declared.cell.Cell.{Cell}
 use Rattle.pisa_isa.specs.declared.machine.Stop.{Stop}
 use Rattle.pisa_isa.specs.declared.machine.Stop.TheVariants.{Finished}
 use Rattle.pisa_isa.specs.Table.{inverse_of, inverse_op}
-use Rattle.pisa_isa.specs.Machine.{State, IsCode, IsState, turned, moved, effect_at, fetch, stop, stop_at, next}
+use Rattle.pisa_isa.specs.Machine.{State, IsCode, IsState, turned_state, moved, effect_at, fetch, stop, stop_at, next}
 use Rattle.pisa_isa.specs.Image.{is_start, is_finish, start_of}
 use Rattle.pisa_isa.specs.Runs.{End, run, started, visited, counted, stop_at_bound, after_step, before_step, later}
 use Rattle.pisa_isa.specs.Runs.{made_in}
@@ -125,7 +125,7 @@ same_start : (pc pc' : ℤ) (br : ℕ) (back : Bool) (regs cells : List ℕ) →
 same_start pc pc' br back regs cells p b d = rw (p, b, d)
 
 turned_around : (code : List Cell) (m : State) (f : ℕ) → count_by is_finish code ≡ 1 → FinishedAt code m f
-    → started (flipped code) m.regs m.cells ≡ mirrored (length code) (turned m)
+    → started (flipped code) m.regs m.cells ≡ mirrored (length code) (turned_state m)
 turned_around code m f one a =
     let within = a.stands.within in
     let p : pos (start_of (flipped code)) ≡ (pos (length code) -ℤ pos 1) -ℤ m.pc =
@@ -150,13 +150,13 @@ flipped_first : (code : List Cell) (m : State) (f : ℕ) → count_by is_finish 
     → next (flipped code) (started (flipped code) m.regs m.cells) ≡ met (length code) m
 flipped_first code m f one a =
     (flipped_begins code m f one a).first ∙ ap moved (turned_around code m f one a)
-    ∙ moved-mirror (length code) (turned m)
+    ∙ moved-mirror (length code) (turned_state m)
 
 -- the flipped code's FINISH, from where the run of the code began
 
 met_start : (code : List Cell) (regs cells : List ℕ) → Begun code regs cells
     → met (length code) (next code (started code regs cells))
-    ≡ mirrored (length code) (turned (started code regs cells))
+    ≡ mirrored (length code) (turned_state (started code regs cells))
 met_start code regs cells b = ap (met (length code)) b.first
     ∙ ap (mirrored (length code)) (moved-twice (started code regs cells))
 
@@ -165,7 +165,7 @@ flipped_finishes : (code : List Cell) (regs cells : List ℕ) → Stands is_star
     → stop (flipped code) (met (length code) (next code (started code regs cells))) ≡ Some Finished
 flipped_finishes code regs cells s b =
     let c = s.cell in
-    let m = mirrored (length code) (turned (started code regs cells)) in
+    let m = mirrored (length code) (turned_state (started code regs cells)) in
     ap (stop (flipped code)) (met_start code regs cells b)
     ∙ ap (λ o. stop_at o m) (fetch-flipped code (pos (start_of code)) c s.there)
     ∙ stops_at_finish (inverse_op c.op) (inverse_of c) m (is_finish-inverse_op c.op ∙ s.is) refl refl

@@ -9,7 +9,7 @@ use Rattle.pisa_isa.specs.declared.cell.Op.TheVariants.{Blez, Bltz, Start, Finis
 use Rattle.pisa_isa.specs.declared.machine.Stop.{Stop}
 use Rattle.pisa_isa.specs.declared.machine.Stop.TheVariants.{Finished, Returned, Trap, BadAddress}
 use Rattle.pisa_isa.specs.Table.{new_value}
-use Rattle.pisa_isa.specs.Machine.{State, reg, with_reg, exchanged_at, branched, is_taken, is_zero}
+use Rattle.pisa_isa.specs.Machine.{State, reg, with_reg, exchanged_at, branched, is_taken, is_zero_word}
 
 abbrev pub sum_by : Bool → (x y : ℕ) → ℕ
 sum_by back x y = if back then difference_of x y else sum_of x y
@@ -20,15 +20,15 @@ turned_by back x n = if back then turned_right x n else turned_left x n
 abbrev pub offset_by : Bool → ℕ → ℕ
 offset_by back i = if back then negated i else i
 
-abbrev pub value_by : Op → Bool → (x y z i : ℕ) → ℕ
-value_by Add back x y z i = sum_by back x y
-value_by Sub back x y z i = sum_by (not back) x y
-value_by Addi back x y z i = sum_of x (offset_by back i)
-value_by Rl back x y z i = turned_by back x i
-value_by Rr back x y z i = turned_by (not back) x i
-value_by Rlv back x y z i = turned_by back x y
-value_by Rrv back x y z i = turned_by (not back) x y
-value_by op back x y z i = new_value op x y z i
+abbrev pub value_in_direction : Op → Bool → (x y z i : ℕ) → ℕ
+value_in_direction Add back x y z i = sum_by back x y
+value_in_direction Sub back x y z i = sum_by (not back) x y
+value_in_direction Addi back x y z i = sum_of x (offset_by back i)
+value_in_direction Rl back x y z i = turned_by back x i
+value_in_direction Rr back x y z i = turned_by (not back) x i
+value_in_direction Rlv back x y z i = turned_by back x y
+value_in_direction Rrv back x y z i = turned_by (not back) x y
+value_in_direction op back x y z i = new_value op x y z i
 
 abbrev pub row_by : Op → Bool → (a x y c i : ℕ) → State → State
 row_by Exch back a x y c i m = exchanged_at m a y
@@ -45,7 +45,7 @@ row_by Bltz back a x y c o m = branched (is_taken Bltz x y) (offset_by back o) m
 row_by Start back a x y c i m = m
 row_by Finish back a x y c i m = m
 row_by DataWord back a x y c i m = m
-row_by op back a x y c i m = with_reg m a (value_by op back x y (reg m c) i)
+row_by op back a x y c i m = with_reg m a (value_in_direction op back x y (reg m c) i)
 
 -- whether there is the data cell that an EXCH asks for, at an address
 abbrev pub has_cell_at : Op → ℕ → State → Bool
@@ -54,8 +54,8 @@ has_cell_at _ y m = true
 
 -- why the machine stops at a row
 abbrev pub stop_by : Op → Bool → (y i : ℕ) → State → Option Stop
-stop_by Finish back y i m = if not back && is_zero m.br then Some Finished else None
-stop_by Start back y i m = if back && is_zero m.br then Some Returned else None
+stop_by Finish back y i m = if not back && is_zero_word m.br then Some Finished else None
+stop_by Start back y i m = if back && is_zero_word m.br then Some Returned else None
 stop_by DataWord back y i m = Some (Trap i)
 stop_by Exch back y i m = if has_cell_at Exch y m then None else Some (BadAddress y)
 stop_by _ back y i m = None

@@ -3,7 +3,7 @@ use Rattle.std.specs.Prelude.{◌≡◌, ℕ, Bool, false, not, ◌&&◌, IsTrue
 use Rattle.std.specs.Prelude.{Option, Some, None}
 use Rattle.pisa_isa.specs.declared.cell.Cell.{Cell}
 use Rattle.pisa_isa.specs.declared.machine.Stop.TheVariants.{Finished}
-use Rattle.pisa_isa.specs.Machine.{State, fetch, stop, is_zero}
+use Rattle.pisa_isa.specs.Machine.{State, fetch, stop, is_zero_word}
 use Rattle.pisa_isa.specs.Image.{is_start, is_finish}
 use Rattle.pisa_isa.specs.Runs.{run, visited}
 
@@ -21,11 +21,11 @@ is_at_finish code m = cell_is is_finish (fetch code m.pc)
 
 -- whether a run begins as it stands: at START with direction 1 and `br` 0
 abbrev pub begins : List Cell → State → Bool
-begins code m = is_at_start code m && not m.back && is_zero m.br
+begins code m = is_at_start code m && not m.back && is_zero_word m.br
 
 -- whether a run backward begins as it stands: at FINISH with direction -1 and `br` 0
 abbrev pub begins_backward : List Cell → State → Bool
-begins_backward code m = is_at_finish code m && m.back && is_zero m.br
+begins_backward code m = is_at_finish code m && m.back && is_zero_word m.br
 
 -- the run of at most n steps finishes, it begins only with its first step, and nowhere does it
 -- begin backward

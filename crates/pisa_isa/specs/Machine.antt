@@ -57,14 +57,14 @@ abbrev pub branched : Bool → ℕ → State → State
 branched taken o m = record m { br = if taken then sum_of m.br o else m.br }
 
 -- the other direction
-abbrev pub turned : State → State
-turned m = record m { back = not m.back }
+abbrev pub turned_state : State → State
+turned_state m = record m { back = not m.back }
 
 abbrev pub below_zero : ℕ → Bool
 below_zero x = nat_le (2 ^ 31) x
 
-abbrev pub is_zero : ℕ → Bool
-is_zero x = nat_eq x 0
+abbrev pub is_zero_word : ℕ → Bool
+is_zero_word x = nat_eq x 0
 
 -- rows 25 and 27 to 32: whether the branch is taken, if its registers hold x and y
 abbrev pub is_taken : Op → (x y : ℕ) → Bool
@@ -72,8 +72,8 @@ is_taken Bra x y = true
 is_taken Beq x y = nat_eq x y
 is_taken Bne x y = not (nat_eq x y)
 is_taken Bgez x y = not (below_zero x)
-is_taken Bgtz x y = not (below_zero x || is_zero x)
-is_taken Blez x y = below_zero x || is_zero x
+is_taken Bgtz x y = not (below_zero x || is_zero_word x)
+is_taken Blez x y = below_zero x || is_zero_word x
 is_taken Bltz x y = below_zero x
 is_taken _ x y = false
 
@@ -107,7 +107,7 @@ effect c m = row_of (faced m.back c) m
 
 -- the length of a move
 abbrev pub stride : ℕ → ℤ
-stride br = if is_zero br then pos 1 else signed br
+stride br = if is_zero_word br then pos 1 else signed br
 
 -- the move by the direction
 abbrev pub place_moved : Bool → ℤ → ℕ → ℤ
@@ -129,8 +129,8 @@ has_cell _ s m = true
 
 -- why the machine stops at a cell, if it does
 abbrev pub stop_in : Op → Cell → State → Option Stop
-stop_in Finish c m = if not m.back && is_zero m.br then Some Finished else None
-stop_in Start c m = if m.back && is_zero m.br then Some Returned else None
+stop_in Finish c m = if not m.back && is_zero_word m.br then Some Finished else None
+stop_in Start c m = if m.back && is_zero_word m.br then Some Returned else None
 stop_in DataWord c m = Some (Trap c.imm)
 stop_in Exch c m = if has_cell Exch c.b m then None else Some (BadAddress (reg m c.b))
 stop_in _ c m = None
@@ -152,11 +152,11 @@ next code m = moved (effect_at (fetch code m.pc) m)
 
 -- the state before: the last move and then the effect, each for the other direction
 abbrev pub back : List Cell → State → State
-back code m = let u = moved (turned m) in turned (effect_at (fetch code u.pc) u)
+back code m = let u = moved (turned_state m) in turned_state (effect_at (fetch code u.pc) u)
 
 -- what the code's registers and cells are as a state
-abbrev pub state_of : Core → List ℕ → State
-state_of core cells = record {
+abbrev pub core_state : Core → List ℕ → State
+core_state core cells = record {
   pc = core.pc;
   br = core.br;
   back = core.back;

@@ -26,9 +26,9 @@ abbrev pub steps : List Cell → ℕ → State → Option State
 steps code zero m = Some m
 steps code (suc n) m = unless_stop (stop code m) (steps code n (next code m))
 
-abbrev pub and_then : Option State → (State → Option State) → Option State
-and_then None f = None
-and_then (Some m) f = f m
+abbrev pub then_state : Option State → (State → Option State) → Option State
+then_state None f = None
+then_state (Some m) f = f m
 
 -- n steps back
 abbrev pub back_by : List Cell → ℕ → State → State

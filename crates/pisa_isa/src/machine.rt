@@ -3,7 +3,7 @@ ghost use Rattle.std.specs.Prelude.{not, ◌≡◌, ◌<◌, ◌≤◌, ◌^◌,
 ghost use Rattle.rpp_words.specs.Words.{sum_of, negated};
 ghost use Rattle.pisa_isa.specs.Table.{IsCell};
 ghost use Rattle.pisa_isa.specs.declared.machine.Stop.TheVariants.{BadAddress};
-ghost use Rattle.pisa_isa.specs.Machine.{State, state_of, fetch, row_of, reg, below_zero, exchanged_at, stride, place_moved, faced, has_cell, stop_in, stop, effect, moved, next, back, back as before, IsCode, IsState, IsNext};
+ghost use Rattle.pisa_isa.specs.Machine.{State, core_state, fetch, row_of, reg, below_zero, exchanged_at, stride, place_moved, faced, has_cell, stop_in, stop, effect, moved, next, back, back as before, IsCode, IsState, IsNext};
 ghost use Rattle.pisa_isa.specs.Directions.{row_by, has_cell_at, sum_by, turned_by, offset_by, stop_by};
 
 use crate::cell::{Cell, Op};
@@ -162,11 +162,11 @@ fn exchange<C: Cells>(core: &mut Core, a: usize, at: u32, cells: &mut C) -> Opti
     requires { a < 32 }
     ensures stops { result ≡ (if nat_lt at (length (C.words cells.old)) then None
         else Some (BadAddress at)) }
-    ensures stays { IsSome result → state_of core.new (C.words cells.new)
-        ≡ state_of core.old (C.words cells.old) }
+    ensures stays { IsSome result → core_state core.new (C.words cells.new)
+        ≡ core_state core.old (C.words cells.old) }
     ensures swaps { IsTrue (nat_lt at (length (C.words cells.old)))
-        → state_of core.new (C.words cells.new)
-        ≡ exchanged_at (state_of core.old (C.words cells.old)) a at }
+        → core_state core.new (C.words cells.new)
+        ≡ exchanged_at (core_state core.old (C.words cells.old)) a at }
     ensures place { core.new.pc ≡ core.old.pc }
 {
     if at >= cells.len() {
@@ -221,12 +221,12 @@ fn act<C: Cells>(
     requires a { a < 32 }
     requires c { c < 32 }
     requires x { x ≡ slice_index core.old.regs a }
-    ensures stops { result ≡ stop_by op back y i (state_of core.old (C.words cells.old)) }
-    ensures stays { IsSome result → state_of core.new (C.words cells.new)
-        ≡ state_of core.old (C.words cells.old) }
-    ensures acts { IsTrue (has_cell_at op y (state_of core.old (C.words cells.old)))
-        → state_of core.new (C.words cells.new)
-        ≡ row_by op back a x y c i (state_of core.old (C.words cells.old)) }
+    ensures stops { result ≡ stop_by op back y i (core_state core.old (C.words cells.old)) }
+    ensures stays { IsSome result → core_state core.new (C.words cells.new)
+        ≡ core_state core.old (C.words cells.old) }
+    ensures acts { IsTrue (has_cell_at op y (core_state core.old (C.words cells.old)))
+        → core_state core.new (C.words cells.new)
+        ≡ row_by op back a x y c i (core_state core.old (C.words cells.old)) }
     ensures place { core.new.pc ≡ core.old.pc }
 {
     let o = offset_by(back, i);
@@ -276,13 +276,13 @@ fn act<C: Cells>(
 fn act_by<C: Cells>(core: &mut Core, cell: &Cell, back: bool, cells: &mut C) -> Option<Stop>
     requires cell { IsCell cell.now }
     ensures stops { result ≡ stop_by cell.now.op back
-        (reg (state_of core.old (C.words cells.old)) cell.now.b) cell.now.imm
-        (state_of core.old (C.words cells.old)) }
-    ensures stays { IsSome result → state_of core.new (C.words cells.new)
-        ≡ state_of core.old (C.words cells.old) }
-    ensures acts { IsTrue (has_cell cell.now.op cell.now.b (state_of core.old (C.words cells.old)))
-        → state_of core.new (C.words cells.new)
-        ≡ row_of (faced back cell.now) (state_of core.old (C.words cells.old)) }
+        (reg (core_state core.old (C.words cells.old)) cell.now.b) cell.now.imm
+        (core_state core.old (C.words cells.old)) }
+    ensures stays { IsSome result → core_state core.new (C.words cells.new)
+        ≡ core_state core.old (C.words cells.old) }
+    ensures acts { IsTrue (has_cell cell.now.op cell.now.b (core_state core.old (C.words cells.old)))
+        → core_state core.new (C.words cells.new)
+        ≡ row_of (faced back cell.now) (core_state core.old (C.words cells.old)) }
     ensures place { core.new.pc ≡ core.old.pc }
 {
     let (a, c) = (cell.a as usize, cell.c as usize);
@@ -299,12 +299,12 @@ fn step_by<C: Cells>(core: &mut Core, cell: &Cell, back: bool, cells: &mut C) ->
     requires back { back ≡ core.old.back }
     requires low { pos 0 ≤ℤ core.old.pc }
     requires high { core.old.pc ≤ℤ pos (2 ^ 32) }
-    ensures stops { result ≡ stop_in cell.now.op cell.now (state_of core.old (C.words cells.old)) }
-    ensures stays { IsSome result → state_of core.new (C.words cells.new)
-        ≡ state_of core.old (C.words cells.old) }
+    ensures stops { result ≡ stop_in cell.now.op cell.now (core_state core.old (C.words cells.old)) }
+    ensures stays { IsSome result → core_state core.new (C.words cells.new)
+        ≡ core_state core.old (C.words cells.old) }
     ensures goes { IsNone result
-        → state_of core.new (C.words cells.new)
-        ≡ moved (effect cell.now (state_of core.old (C.words cells.old))) }
+        → core_state core.new (C.words cells.new)
+        ≡ moved (effect cell.now (core_state core.old (C.words cells.old))) }
 {
     let pc = core.pc;
     let stop = act_by(core, cell, back, cells);
@@ -319,11 +319,11 @@ fn step_by<C: Cells>(core: &mut Core, cell: &Cell, back: bool, cells: &mut C) ->
 #[inline(always)]
 pub fn step<C: Cells>(core: &mut Core, code: &[Cell], cells: &mut C) -> Option<Stop>
     requires { IsCode code.now }
-    ensures stops { result ≡ stop code.now (state_of core.old (C.words cells.old)) }
+    ensures stops { result ≡ stop code.now (core_state core.old (C.words cells.old)) }
     ensures stays { IsSome result
-        → state_of core.new (C.words cells.new) ≡ state_of core.old (C.words cells.old) }
+        → core_state core.new (C.words cells.new) ≡ core_state core.old (C.words cells.old) }
     ensures goes { IsNone result
-        → state_of core.new (C.words cells.new) ≡ next code.now (state_of core.old (C.words cells.old)) }
+        → core_state core.new (C.words cells.new) ≡ next code.now (core_state core.old (C.words cells.old)) }
 {
     if !is_in_code(code, core.pc) {
         return Some(Stop::OffCode(core.pc));
@@ -342,13 +342,13 @@ pub fn step<C: Cells>(core: &mut Core, code: &[Cell], cells: &mut C) -> Option<S
 #[inline(always)]
 fn unstep_by<C: Cells>(core: &mut Core, code: &[Cell], back: bool, cells: &mut C)
     requires code { IsCode code.now }
-    requires made { IsNext code.now (state_of core.old (C.words cells.old)) }
+    requires made { IsNext code.now (core_state core.old (C.words cells.old)) }
     requires back { back ≡ not core.old.back }
-    ensures back { state_of core.new (C.words cells.new)
-        ≡ before code.now (state_of core.old (C.words cells.old)) }
+    ensures back { core_state core.new (C.words cells.new)
+        ≡ before code.now (core_state core.old (C.words cells.old)) }
     ensures undoes { (m : State) → IsState m → stop code.now m ≡ None
-        → state_of core.old (C.words cells.old) ≡ next code.now m
-        → state_of core.new (C.words cells.new) ≡ m }
+        → core_state core.old (C.words cells.old) ≡ next code.now m
+        → core_state core.new (C.words cells.new) ≡ m }
 {
     let pc = place_before(core, back);
     let _stop = act_by(core, cell_at(code, pc), back, cells);
@@ -358,12 +358,12 @@ fn unstep_by<C: Cells>(core: &mut Core, code: &[Cell], back: bool, cells: &mut C
 /// Undoes a step that was made.
 pub fn unstep<C: Cells>(core: &mut Core, code: &[Cell], cells: &mut C)
     requires code { IsCode code.now }
-    requires made { IsNext code.now (state_of core.old (C.words cells.old)) }
-    ensures back { state_of core.new (C.words cells.new)
-        ≡ back code.now (state_of core.old (C.words cells.old)) }
+    requires made { IsNext code.now (core_state core.old (C.words cells.old)) }
+    ensures back { core_state core.new (C.words cells.new)
+        ≡ back code.now (core_state core.old (C.words cells.old)) }
     ensures undoes { (m : State) → IsState m → stop code.now m ≡ None
-        → state_of core.old (C.words cells.old) ≡ next code.now m
-        → state_of core.new (C.words cells.new) ≡ m }
+        → core_state core.old (C.words cells.old) ≡ next code.now m
+        → core_state core.new (C.words cells.new) ≡ m }
 {
     if core.back {
         unstep_by(core, code, false, cells)

@@ -14,7 +14,7 @@ use Rattle.std.proofs.lemmas.List.Sums.{take_while-cons}
 use Rattle.pisa_loader.specs.InputLines.{is_blank, behind, after, word_up_to, digits_word, number_word, entry_in, Entry}
 use Rattle.pisa_loader.specs.InputLines.{entry}
 use Rattle.rpp_words.specs.Texts.{decimal_from}
-use Rattle.pisa_loader.specs.InputGrammar.{are_blanks, is_name, is_numeral, sign, Parts, line_of, AreParts, Sets}
+use Rattle.pisa_loader.specs.InputGrammar.{are_blanks, is_input_name, is_numeral, sign, Parts, input_line, AreParts, Sets}
 
 either : (b c : Bool) → (b || c) ≡ true → (b ≡ true) ⊎ (c ≡ true)
 either true c e = inl refl
@@ -81,17 +81,17 @@ blanks_stop p (x ∷ xs) ys s t all h = blank_not p x s t (and_parts (is_blank x
 letter_in_name : (b : ℕ) → is_ascii_alphabetic b ≡ true → is_name_byte b ≡ true
 letter_in_name b e = rw e refl
 
-name_passes : (name : List ℕ) → is_name name ≡ true → list_all is_name_byte name ≡ true
+name_passes : (name : List ℕ) → is_input_name name ≡ true → list_all is_name_byte name ≡ true
 name_passes [] e = refl
 name_passes (b ∷ rest) e = let g = and_parts (is_ascii_alphabetic b) (list_all is_name_byte rest) e in
     rw (letter_in_name b g.0, g.1) refl
 
-name_stops_blanks : (name rest : List ℕ) → is_name name ≡ true → Stops is_blank (name ++ rest)
+name_stops_blanks : (name rest : List ℕ) → is_input_name name ≡ true → Stops is_blank (name ++ rest)
 name_stops_blanks [] rest e = absurd cc
 name_stops_blanks (b ∷ name) rest e = not_blank is_ascii_alphabetic b refl refl
     (and_parts (is_ascii_alphabetic b) (list_all is_name_byte name) e).0
 
-begins_with_letter : (name rest : List ℕ) → is_name name ≡ true
+begins_with_letter : (name rest : List ℕ) → is_input_name name ≡ true
     → nat_eq (prefix_len is_ascii_alphabetic (name ++ rest)) 0 ≡ false
 begins_with_letter [] rest e = absurd cc
 begins_with_letter (b ∷ name) rest e =
@@ -171,11 +171,11 @@ read_text text =
     (after 61 (behind is_blank (behind is_name_byte text))))
 
 pub line_read : (p : Parts) (word : ℕ) → AreParts p → word_up_to p.minus (decimal_from 0 p.digits) ≡ Some word
-    → entry_in (line_of p) ≡ Some (entry p.name word)
+    → entry_in (input_line p) ≡ Some (entry p.name word)
 unfolding entry_in
 line_read p word a w =
     let tail : List ℕ = p.between ++ (61 ∷ value_part p) in
-    let text : behind is_blank (line_of p) ≡ name_part p =
+    let text : behind is_blank (input_line p) ≡ name_part p =
     behind_is is_blank p.before (name_part p) a.blank_before (name_stops_blanks p.name tail a.named) in
     let stop : Stops is_name_byte tail = blanks_stop is_name_byte p.between (61 ∷ value_part p) refl refl
     a.blank_between refl in
@@ -240,11 +240,11 @@ numeral_here (x ∷ xs) e =
     ap is_numeral (front_begins is_ascii_digit x xs digit) ∙ rw (digit, front_passes is_ascii_digit xs) refl
 
 name_here : (text : List ℕ) → nat_eq (prefix_len is_ascii_alphabetic text) 0 ≡ false
-    → is_name (take_while is_name_byte text) ≡ true
+    → is_input_name (take_while is_name_byte text) ≡ true
 name_here [] e = absurd cc
 name_here (x ∷ xs) e =
     let letter = front_begins_so is_ascii_alphabetic x xs e in
-    ap is_name (front_begins is_name_byte x xs (letter_in_name x letter))
+    ap is_input_name (front_begins is_name_byte x xs (letter_in_name x letter))
     ∙ rw (letter, front_passes is_name_byte xs) refl
 
 record HasNumber (text : List ℕ) (word : ℕ) : Type 0 where
@@ -318,7 +318,7 @@ line_found line e read =
     let tail : rest ≡ take_while is_blank rest ++ (61 ∷ value_part parts) =
     cut_here is_blank rest ∙ ap (λ xs. take_while is_blank rest ++ xs)
     (after_is 61 (behind is_blank rest) v.0 v.1 ∙ ap (λ xs. 61 ∷ xs) value) in
-    let whole : line ≡ line_of parts =
+    let whole : line ≡ input_line parts =
     cut_here is_blank line ∙ ap (λ xs. take_while is_blank line ++ xs)
     (cut_here is_name_byte text ∙ ap (λ xs. name ++ xs) tail) in
     subst (λ (x : Entry). Sets line x.name x.word) same (record {

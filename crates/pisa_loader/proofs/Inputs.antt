@@ -8,11 +8,11 @@ use Rattle.std.proofs.lemmas.List.Sums.{count_by-le-length}
 use Rattle.rpp_words.specs.declared.input.FieldWord.{FieldWord}
 use Rattle.pisa_loader.specs.declared.error.LoadError.{LoadError}
 use Rattle.pisa_loader.specs.declared.input.InputField.{InputField}
-use Rattle.pisa_loader.specs.InputLines.{line_word, with_word, words_from}
+use Rattle.pisa_loader.specs.InputLines.{line_word, with_field_word, words_from}
 
 pub line_read : (fields : List InputField) (line : ℕ) (words : List FieldWord) (text : List ℕ) (texts : List (List ℕ))
     (o : Option FieldWord) → line_word fields line words text ≡ Ok o
-    → words_from fields line words (text ∷ texts) ≡ words_from fields (line + 1) (with_word words o) texts
+    → words_from fields line words (text ∷ texts) ≡ words_from fields (line + 1) (with_field_word words o) texts
 unfolding words_from
 line_read fields line words text texts o e = rw e refl
 
@@ -31,7 +31,7 @@ pub goes_on : {A : Type 0} (f : A → List ℕ) (fields : List InputField) (line
     (seen words more_words : List FieldWord) (o : Option FieldWord) (items : List A) (i : ℕ) (d : A)
     (total : Result (List FieldWord) LoadError)
     → i < length items → seen ≡ words → line_word fields line seen (f (get_or items i d)) ≡ Ok o
-    → more_words ≡ with_word words o
+    → more_words ≡ with_field_word words o
     → words_from fields line words (map f (drop i items)) ≡ total
     → words_from fields (line + 1) more_words (map f (drop (i + 1) items)) ≡ total
 goes_on f fields line seen words more_words o items i d total more same e w so_far =

@@ -16,8 +16,8 @@ use Rattle.pisa_loader.specs.declared.error.LoadError.{LoadError}
 use Rattle.pisa_loader.specs.declared.error.LoadError.TheVariants.{UnknownField}
 use Rattle.pisa_loader.specs.declared.input.InputField.{InputField}
 use Rattle.pisa_loader.specs.States.{Gives}
-use Rattle.pisa_loader.specs.InputLines.{is_blank, word_up_to, entry_in, Entry, field_named, is_set, new_word, entry_word}
-use Rattle.pisa_loader.specs.InputLines.{line_word, with_word, words_from, input_of, is_field, set_none_twice, AreInput}
+use Rattle.pisa_loader.specs.InputLines.{is_blank, word_up_to, entry_in, Entry, field_named, is_set, next_word, entry_word}
+use Rattle.pisa_loader.specs.InputLines.{line_word, with_field_word, words_from, input_of, is_field, set_none_twice, AreInput}
 use Rattle.rpp_words.specs.Texts.{decimal_from}
 use Rattle.pisa_loader.proofs.InputForm.{line_found}
 
@@ -62,7 +62,7 @@ fresh false e r o h = (refl, cc)
 
 field_adds : (fields : List InputField) (line : ℕ) (words : List FieldWord) (name : List ℕ) (word : ℕ) → IsWord word
     → (f : Option ℕ) → field_named fields name ≡ f
-    → (o : Option FieldWord) → new_word line words f word ≡ Ok o → Adds fields words o
+    → (o : Option FieldWord) → next_word line words f word ≡ Ok o → Adds fields words o
 field_adds fields line words name word w None n o e = absurd cc
 field_adds fields line words name word w (Some field) n o e =
     let g = fresh (is_set words field) (UnknownField line) (record { field = field; word = word }) o e in
@@ -123,7 +123,7 @@ once_more (x ∷ words) r e s =
     unset false n = refl
 
 one_more : (fields : List InputField) (words : List FieldWord) (o : Option FieldWord) → AreInput fields words
-    → Adds fields words o → AreInput fields (with_word words o)
+    → Adds fields words o → AreInput fields (with_field_word words o)
 one_more fields words None i a = i
 one_more fields words (Some r) i a = record {
   known = All-append (λ word. IsTrue (is_field fields word.field)) words (r ∷ []) i.known
@@ -147,9 +147,9 @@ all_lines fields line words [] read i e = subst (AreInput fields) (same words re
     same : (a b : List FieldWord) → given a ≡ given b → a ≡ b
     same a b h = cc
 all_lines fields line words (text ∷ texts) read i e =
-    let a = bind_ok (line_word fields line words text) (λ word. words_from fields (line + 1) (with_word words word)
+    let a = bind_ok (line_word fields line words text) (λ word. words_from fields (line + 1) (with_field_word words word)
     texts) read e in
-    all_lines fields (line + 1) (with_word words a.0) texts read
+    all_lines fields (line + 1) (with_field_word words a.0) texts read
     (one_more fields words a.0 i (line_adds fields line words text a.0 a.1)) a.2
 
 none_yet : (fields : List InputField) → AreInput fields []

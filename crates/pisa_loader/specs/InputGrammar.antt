@@ -11,9 +11,9 @@ abbrev pub are_blanks : List ℕ → Bool
 are_blanks bytes = list_all is_blank bytes
 
 -- a letter, and then letters, digits, `_` and `'`
-abbrev pub is_name : List ℕ → Bool
-is_name [] = false
-is_name (byte ∷ rest) = is_ascii_alphabetic byte && list_all is_name_byte rest
+abbrev pub is_input_name : List ℕ → Bool
+is_input_name [] = false
+is_input_name (byte ∷ rest) = is_ascii_alphabetic byte && list_all is_name_byte rest
 
 -- one digit or more
 abbrev pub is_numeral : List ℕ → Bool
@@ -34,14 +34,14 @@ pub record Parts : Type 0 where
   pub after : List ℕ
 
 -- blanks, a name, blanks, `=`, blanks, a number, blanks
-abbrev pub line_of : Parts → List ℕ
-line_of p =
+abbrev pub input_line : Parts → List ℕ
+input_line p =
     p.before
     ++ (p.name ++ (p.between ++ (61 ∷ (p.behind_sign ++ (sign p.minus ++ (p.digits ++ p.after))))))
 
 pub record AreParts (p : Parts) : Type 0 where
   pub blank_before : are_blanks p.before ≡ true
-  pub named : is_name p.name ≡ true
+  pub named : is_input_name p.name ≡ true
   pub blank_between : are_blanks p.between ≡ true
   pub blank_behind_sign : are_blanks p.behind_sign ≡ true
   pub numeral : is_numeral p.digits ≡ true
@@ -51,6 +51,6 @@ pub record AreParts (p : Parts) : Type 0 where
 pub record Sets (line name : List ℕ) (word : ℕ) : Type 0 where
   pub parts : Parts
   pub are_parts : AreParts parts
-  pub spelled : line ≡ line_of parts
+  pub spelled : line ≡ input_line parts
   pub same_name : parts.name ≡ name
   pub in_range : word_up_to parts.minus (decimal_from 0 parts.digits) ≡ Some word

@@ -74,16 +74,16 @@ abbrev pub is_set : List FieldWord → ℕ → Bool
 is_set words field = list_any (λ word. nat_eq word.field field) words
 
 -- a field that no earlier line set is set
-abbrev pub new_word : (line : ℕ) → List FieldWord → Option ℕ → ℕ
+abbrev pub next_word : (line : ℕ) → List FieldWord → Option ℕ → ℕ
     → Result (Option FieldWord) LoadError
-new_word line words None word = Err (UnknownField line)
-new_word line words (Some field) word = if is_set words field then Err (UnknownField line)
+next_word line words None word = Err (UnknownField line)
+next_word line words (Some field) word = if is_set words field then Err (UnknownField line)
     else Ok (Some (record { field = field; word = word }))
 
 abbrev pub entry_word : List InputField → (line : ℕ) → List FieldWord → Option Entry
     → Result (Option FieldWord) LoadError
 entry_word fields line words None = Err (BadInputLine line)
-entry_word fields line words (Some e) = new_word line words (field_named fields e.name) e.word
+entry_word fields line words (Some e) = next_word line words (field_named fields e.name) e.word
 
 -- what a line sets in addition to the words of the lines before it
 abbrev pub line_word : List InputField → (line : ℕ) → List FieldWord → List ℕ
@@ -91,16 +91,16 @@ abbrev pub line_word : List InputField → (line : ℕ) → List FieldWord → L
 line_word fields line words text = if list_all is_blank text then Ok None
     else entry_word fields line words (entry_in text)
 
-abbrev pub with_word : List FieldWord → Option FieldWord → List FieldWord
-with_word words None = words
-with_word words (Some word) = words ++ word ∷ []
+abbrev pub with_field_word : List FieldWord → Option FieldWord → List FieldWord
+with_field_word words None = words
+with_field_word words (Some word) = words ++ word ∷ []
 
 -- line by line, the first of which has this number
 unfoldable pub words_from : List InputField → (line : ℕ) → List FieldWord → List (List ℕ)
     → Result (List FieldWord) LoadError
 words_from fields line words [] = Ok words
 words_from fields line words (text ∷ texts) =
-    line_word fields line words text >>= λ word. words_from fields (line + 1) (with_word words word)
+    line_word fields line words text >>= λ word. words_from fields (line + 1) (with_field_word words word)
     texts
 
 -- line feeds part the lines

@@ -7,13 +7,13 @@ use Rattle.pisa_machine.specs.pisa_isa.Machine.{Memory}
 use Rattle.pisa_machine.specs.Position.{Position, first_position}
 use Rattle.pisa_image.specs.declared.error.NumberError.{NumberError}
 use Rattle.pisa_image.specs.declared.error.NumberError.TheVariants as number
-use Rattle.pisa_image.specs.Numbers.{◌>>=◌, refused_as, word_bytes, words_bytes, word_at, words_at}
+use Rattle.pisa_image.specs.Numbers.{◌>>=◌, refused_as, word_bytes, words_bytes, read_word_at, words_at}
 use Rattle.pisa_loader.specs.declared.state.TheConstants.{STATE_MARK, STATE_VERSION}
 use Rattle.pisa_loader.specs.declared.error.LoadError.{LoadError}
 use Rattle.pisa_loader.specs.declared.error.LoadError.TheVariants.{BadState, NoMemory}
 
-abbrev pub memory : (regs cells : List ℕ) → Memory
-memory regs cells = record { regs = regs; cells = cells }
+abbrev pub loaded_memory : (regs cells : List ℕ) → Memory
+loaded_memory regs cells = record { regs = regs; cells = cells }
 
 -- 32 registers and so many cells, all of them words
 pub record IsMemory (count : ℕ) (m : Memory) : Type 0 where
@@ -37,13 +37,13 @@ Gives view (Ok x) read = read ≡ Ok (view x)
 Gives view (Err e) read = Fails e read
 
 -- a state that ends within a number
-abbrev pub number_refusal : NumberError → LoadError
-number_refusal (number.Cut at) = BadState at
-number_refusal number.NoMemory = NoMemory
+abbrev pub load_refusal : NumberError → LoadError
+load_refusal (number.Cut at) = BadState at
+load_refusal number.NoMemory = NoMemory
 
 -- a number that must be this one, and the bytes after it
 abbrev pub known_word : (known at : ℕ) → List ℕ → Result (List ℕ) LoadError
-known_word known at bytes = refused_as number_refusal (word_at at bytes) >>= λ word.
+known_word known at bytes = refused_as load_refusal (read_word_at at bytes) >>= λ word.
     if nat_eq word.0 known then Ok word.1 else Err (BadState at)
 
 -- a state with so many cells, all of the bytes
@@ -51,10 +51,10 @@ unfoldable pub state_at : (count : ℕ) → List ℕ → Result Memory LoadError
 state_at count bytes = do
   marked ← known_word STATE_MARK 0 bytes
   versioned ← known_word STATE_VERSION 4 marked
-  regs ← refused_as number_refusal (words_at 32 8 versioned)
+  regs ← refused_as load_refusal (words_at 32 8 versioned)
   counted ← known_word count 136 regs.1
-  cells ← refused_as number_refusal (words_at count 140 counted)
-  if nat_eq (length cells.1) 0 then Ok (memory regs.0 cells.0) else Err (BadState (140 + 4 * count))
+  cells ← refused_as load_refusal (words_at count 140 counted)
+  if nat_eq (length cells.1) 0 then Ok (loaded_memory regs.0 cells.0) else Err (BadState (140 + 4 * count))
 
 -- the machine of an image at the start of a run from a memory
 abbrev pub at_start : Segments → Result Memory LoadError → Result Position LoadError

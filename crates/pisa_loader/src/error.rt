@@ -1,7 +1,7 @@
 // Why a machine is not loaded.
 ghost use Rattle.std.specs.Prelude.{◌≡◌};
 ghost use Rattle.pisa_loader.specs.declared.error.LoadError.TheVariants.{NoMemory};
-ghost use Rattle.pisa_loader.specs.States.{number_refusal};
+ghost use Rattle.pisa_loader.specs.States.{load_refusal};
 
 use pisa_image::NumberError;
 use rpp_words::NoMemory as WantOfMemory;
@@ -58,7 +58,7 @@ impl From<WantOfMemory> for LoadError {
 }
 
 impl From<NumberError> for LoadError {
-    ghost from_gives = { λ n e. e ≡ number_refusal n };
+    ghost from_gives = { λ n e. e ≡ load_refusal n };
 
     fn from(refusal: NumberError) -> Self {
         match refusal {

@@ -1,7 +1,7 @@
 // Reads inputs.
 ghost use Rattle.std.specs.Prelude.{◌≡◌, ◌≤◌, ◌<◌, ◌+◌, ◌^◌, ℕ, [], All, map, length, vec_len, IfOk, OnOk, nat_eq};
 ghost use Rattle.std.specs.List.{slice_split, list_any};
-ghost use Rattle.pisa_loader.specs.InputLines.{field_named, is_set, line_word, with_word, input_of, AreInput};
+ghost use Rattle.pisa_loader.specs.InputLines.{field_named, is_set, line_word, with_field_word, input_of, AreInput};
 ghost use Rattle.pisa_loader.specs.States.{Gives};
 
 use crate::error::LoadError;
@@ -51,7 +51,7 @@ fn read_lines(alloc: Global, bytes: &[u8], fields: &[InputField]) -> Result<Inpu
 
 /// Puts the word of a line at the end, if it has one.
 fn add(words: &mut Vec<FieldWord>, word: Option<FieldWord>) -> Result<(), AllocError>
-    ensures { OnOk result (words.new.items ≡ with_word words.old.items word) }
+    ensures { OnOk result (words.new.items ≡ with_field_word words.old.items word) }
 {
     match word {
         None => Ok(()),

@@ -6,7 +6,7 @@ ghost use Rattle.pisa_image.specs.Numbers.{words_bytes};
 ghost use Rattle.pisa_loader.specs.Limiting.{memory_size};
 ghost use Rattle.rpp_words.specs.Limits.{IsLimits};
 ghost use Rattle.pisa_machine.specs.pisa_isa.Machine.{Memory};
-ghost use Rattle.pisa_loader.specs.States.{Gives, memory, IsMemory, state_bytes, known_word, state_at, at_start};
+ghost use Rattle.pisa_loader.specs.States.{Gives, loaded_memory, IsMemory, state_bytes, known_word, state_at, at_start};
 
 use crate::error::LoadError;
 use crate::memory::memory_size;
@@ -36,7 +36,7 @@ pub fn load_state(
         (at_start image (state_at (memory_size (length image.statics) limits) bytes.now)) }
     // What is read as a state is the bytes of the machine's, and its cells are as many.
     ensures found { IfOk result (λ machine. bytes.now
-        ≡ state_bytes (memory machine.state.regs machine.state.cells)) }
+        ≡ state_bytes (loaded_memory machine.state.regs machine.state.cells)) }
     ensures size { IfOk result (λ machine. length machine.state.cells
         ≡ memory_size (length image.statics) limits) }
     // The bytes of a memory of this size are read as it, unless memory runs out.
@@ -67,7 +67,7 @@ fn machine_of(
 #[tactic(auto, unfolding(crate::specs::States::state_at))]
 fn state_at(alloc: Global, count: u32, bytes: &[u8]) -> Result<([u32; 32], Vec<u32>), LoadError>
     requires { count < 2 ^ 24 }
-    ensures read { Gives (λ x. memory x.0 x.1.items) result (state_at count bytes.now) }
+    ensures read { Gives (λ x. loaded_memory x.0 x.1.items) result (state_at count bytes.now) }
     ensures len { IfOk result (λ x. vec_len x.1 ≡ count) }
 {
     let rest = known_word(STATE_MARK, 0, bytes)?;
@@ -108,10 +108,10 @@ fn known_word(known: u32, at: u32, bytes: &[u8]) -> Result<&[u8], LoadError>
 /// The bytes of a machine's registers and data cells.
 pub fn save_state(alloc: Global, machine: &Machine) -> Result<Vec<u8>, NoMemory>
     ensures bytes { IfOk result (λ bytes. bytes.items
-        ≡ state_bytes (memory machine.now.state.regs machine.now.state.cells)) }
+        ≡ state_bytes (loaded_memory machine.now.state.regs machine.now.state.cells)) }
     // They are read as these registers and cells.
     ensures reads_back { IfOk result (λ bytes. state_at (length machine.now.state.cells) bytes.items
-        ≡ Ok (memory machine.now.state.regs machine.now.state.cells)) }
+        ≡ Ok (loaded_memory machine.now.state.regs machine.now.state.cells)) }
 {
     let count = machine.cells();
     let mut bytes = Vec::with_capacity(alloc, 140 + 4 * count as usize)?;

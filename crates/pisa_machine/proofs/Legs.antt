@@ -3,7 +3,7 @@ use Rattle.std.proofs.Common.{◌≡◌, ◌∙◌, sym, ap, subst, ℕ, zero, s
 use Rattle.pisa_isa.specs.declared.cell.Cell.{Cell}
 use Rattle.pisa_isa.specs.declared.machine.Stop.{Stop}
 use Rattle.pisa_isa.specs.Machine.{State, IsCode, stop, stop_at, stop_in, next, fetch, effect, effect_at, moved}
-use Rattle.pisa_isa.specs.Runs.{End, run, steps, later, and_then, unless_stop, counted, stop_at_bound, IsReached}
+use Rattle.pisa_isa.specs.Runs.{End, run, steps, later, then_state, unless_stop, counted, stop_at_bound, IsReached}
 use Rattle.pisa_isa.proofs.Keeps.{first_step, reached_after}
 use Rattle.pisa_isa.proofs.Runs.{steps-add, run-stop}
 use Rattle.pisa_isa.proofs.Longer.{run-steps}
@@ -13,7 +13,7 @@ pub one_more : (code : List Cell) (n : ℕ) (m here there : State) → steps cod
     → there ≡ next code here
     → steps code (n + 1) m ≡ Some there
 one_more code n m here there reaches goes moved =
-    steps-add code n 1 m ∙ ap (λ o. and_then o (steps code 1)) reaches
+    steps-add code n 1 m ∙ ap (λ o. then_state o (steps code 1)) reaches
     ∙ ap (λ o. unless_stop o (Some (next code here))) goes ∙ ap Some (sym moved)
 
 -- one step more, at a cell that is found
@@ -27,7 +27,7 @@ one_more_at code n m here there cell reaches found goes is =
 -- so many steps more
 pub more : (code : List Cell) (n k : ℕ) (m here there : State) → steps code n m ≡ Some here
     → steps code k here ≡ Some there → steps code (n + k) m ≡ Some there
-more code n k m here there reaches goes = steps-add code n k m ∙ ap (λ o. and_then o (steps code k)) reaches ∙ goes
+more code n k m here there reaches goes = steps-add code n k m ∙ ap (λ o. then_state o (steps code k)) reaches ∙ goes
 
 -- a position so many steps after a reachable one
 pub reached_more : (code : List Cell) (n k : ℕ) (m there : State) → IsCode code → IsReached code n m

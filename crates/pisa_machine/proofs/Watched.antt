@@ -10,7 +10,7 @@ use Rattle.pisa_isa.specs.declared.machine.Stop.TheVariants.{Finished, Returned,
 use Rattle.pisa_isa.specs.Image.{Segments}
 use Rattle.pisa_isa.specs.Machine.{State, stop, stop_at, next, fetch}
 use Rattle.pisa_isa.specs.Runs.{End, run, steps, visited, before_step, after_step, counted, counted_by, stop_at_bound}
-use Rattle.pisa_isa.specs.Runs.{later, made_in, unless_stop, and_then}
+use Rattle.pisa_isa.specs.Runs.{later, made_in, unless_stop, then_state}
 use Rattle.pisa_isa.proofs.Keeps.{first_step}
 use Rattle.pisa_isa.proofs.Longer.{run-steps}
 use Rattle.pisa_isa.proofs.Runs.{steps-add, run-stop}
@@ -79,7 +79,7 @@ told_more code made first here there step ws now last before after added h goes 
     ∙ map-append step_at (visited code made first) (here ∷ [])
     ∙ ap (λ s. counted_steps code made first ++ s ∷ []) (sym at) in
     record {
-      reaches = steps-add code made 1 first ∙ ap (λ o. and_then o (steps code 1)) h.reaches
+      reaches = steps-add code made 1 first ∙ ap (λ o. then_state o (steps code 1)) h.reaches
           ∙ ap (λ o. unless_stop o (Some (next code here))) goes ∙ ap Some (sym moved);
       stands = left ∙ ap (going step) h.stands ∙ sym (left_more (counted_steps code made first) step ws)
           ∙ ap (λ l. left_after l ws) (sym told);
@@ -272,7 +272,7 @@ pub noted_more : (code : List Cell) (n : ℕ) (m here there : State) (noted : Li
     → take n noted ≡ counted_steps code n m → n < length noted
     → take (n + 1) (slice_set noted n (step_at here)) ≡ counted_steps code (n + 1) m
 noted_more code n m here there noted reaches goes notes less =
-    let parts = steps-add code n 1 m ∙ ap (λ o. and_then o (steps code 1)) reaches in
+    let parts = steps-add code n 1 m ∙ ap (λ o. then_state o (steps code 1)) reaches in
     let one = first_step (stop code here) (steps code 0 (next code here)) there (sym parts ∙ goes) in
     take_more_set noted n (step_at here) less ∙ ap (λ l. l ++ step_at here ∷ []) notes
     ∙ sym (counted_more code n 1 m here reaches ∙ ap (λ l. counted_steps code n m ++ map step_at l)
@@ -290,7 +290,7 @@ told_many code code_here made k first here there ws now last before after h same
     let there_is : steps code k here ≡ Some there = ap (λ (c : List Cell). steps c k here) (sym same) ∙ goes in
     let no_line : lines_after (counted_steps code k here) now ≡ [] = ap (λ l. lines_after l now) (sym at) ∙ none in
     record {
-      reaches = steps-add code made k first ∙ ap (λ o. and_then o (steps code k)) h.reaches ∙ there_is;
+      reaches = steps-add code made k first ∙ ap (λ o. then_state o (steps code k)) h.reaches ∙ there_is;
       stands = left ∙ ap (λ l. left_after l now) at ∙ ap (left_after (counted_steps code k here)) h.stands
           ∙ sym (left_append (counted_steps code made first) (counted_steps code k here) ws)
           ∙ ap (λ l. left_after l ws) (sym told);

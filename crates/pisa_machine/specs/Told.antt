@@ -8,13 +8,13 @@ use Rattle.rpp_probes.specs.Tally.{Watch, left_after, lines_after, IsCutShort}
 use Rattle.pisa_machine.specs.Position.{Position}
 
 -- the number of a code address; only addresses in the code are observed
-abbrev pub place_of : ℤ → ℕ
-place_of (pos n) = n
-place_of (negsuc n) = 0
+abbrev pub code_address : ℤ → ℕ
+code_address (pos n) = n
+code_address (negsuc n) = 0
 
 -- a step from a state
 abbrev pub step_at : State → StepAt
-step_at m = record { place = place_of m.pc; back = m.back }
+step_at m = record { place = code_address m.pc; back = m.back }
 
 -- the counted steps of a run of at most n steps, in order
 abbrev pub counted_steps : List Cell → ℕ → State → List StepAt

@@ -5,8 +5,8 @@ use Rattle.pisa_isa.specs.Machine.{State}
 use Rattle.pisa_machine.specs.declared.rows.Outcome.{Outcome}
 use Rattle.pisa_machine.specs.declared.rows.Outcome.TheVariants.{Goes, Turns, Stops}
 
-abbrev pub state_at : (pc : ℤ) (br : ℕ) (back : Bool) (regs cells : List ℕ) → State
-state_at pc br back regs cells = record {
+abbrev pub state_with : (pc : ℤ) (br : ℕ) (back : Bool) (regs cells : List ℕ) → State
+state_with pc br back regs cells = record {
   pc = pc;
   br = br;
   back = back;

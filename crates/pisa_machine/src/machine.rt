@@ -1,11 +1,11 @@
 // Machines.
 ghost use Rattle.std.specs.Prelude.{◌≡◌, IsSome, ◌<◌, ◌≤◌, ◌^◌, ◌+◌, ◌-◌, ◌↔◌, pos, false, All, length, take, replicate, ◌++◌, Some, slice_get, vec_len, IsTrue, IsFalse, IfOk, if◌then◌else◌};
 ghost use Rattle.pisa_isa.specs.rpp_words.Words.{IsWord};
-ghost use Rattle.pisa_isa.specs.Machine.{state_of, word_at, stop, fetch, back, IsCode, IsNext};
+ghost use Rattle.pisa_isa.specs.Machine.{core_state, word_at, stop, fetch, back, IsCode, IsNext};
 ghost use Rattle.pisa_isa.specs.Image.{IsImage, start_of};
 ghost use Rattle.pisa_isa.specs.Runs.{run, steps as steps_made, counted, counted_by, stop_at_bound};
 ghost use Rattle.pisa_machine.specs.Position.{Position, IsMachine, first_position, stepped};
-ghost use Rattle.pisa_machine.specs.Told.{step_at, counted_steps, place_of as number_of};
+ghost use Rattle.pisa_machine.specs.Told.{step_at, counted_steps, code_address as number_of};
 
 use crate::lazy_cells::LazyCells;
 use crate::noting::note_leg;
@@ -29,7 +29,7 @@ pub struct Machine {
 }
 
 impl Model for Machine {
-    ghost use Rattle.pisa_isa.specs.Machine.{state_of};
+    ghost use Rattle.pisa_isa.specs.Machine.{core_state};
     ghost use Rattle.pisa_machine.specs.Reached.{words_of};
     ghost use Rattle.pisa_machine.specs.Position.{Position, IsMachine};
 
@@ -37,14 +37,14 @@ impl Model for Machine {
 
     ghost view = { λ m. record {
       image = m.image;
-      state = state_of m.core (words_of m.cells.words.items m.cells.count);
+      state = core_state m.core (words_of m.cells.words.items m.cells.count);
       made = m.made;
     } };
 
     ghost invariant = { λ m. IsMachine
         (record {
           image = m.image;
-          state = state_of m.core
+          state = core_state m.core
               (words_of m.cells.words.items m.cells.count);
           made = m.made;
         }) };
@@ -250,7 +250,7 @@ impl Machine {
 
     /// The place, the branch register, the direction and the registers.
     pub fn core(&self) -> &Core
-        ensures state { state_of result.now self.now.state.cells ≡ self.now.state }
+        ensures state { core_state result.now self.now.state.cells ≡ self.now.state }
         ensures machine { IsMachine self.now }
     {
         &self.core

@@ -1,8 +1,8 @@
 // Runs in one direction whose steps are noted.
 ghost use Rattle.std.specs.Prelude.{◌≡◌, ◌<◌, ◌≤◌, ◌+◌, ◌^◌, pos, ◌≤ℤ◌, ◌<ℤ◌, length, take, slice_set, Some};
-ghost use Rattle.pisa_isa.specs.Machine.{state_of, IsCode};
+ghost use Rattle.pisa_isa.specs.Machine.{core_state, IsCode};
 ghost use Rattle.pisa_isa.specs.Runs.{steps as steps_made};
-ghost use Rattle.pisa_machine.specs.Told.{place_of, counted_steps};
+ghost use Rattle.pisa_machine.specs.Told.{code_address, counted_steps};
 
 use crate::rows::{Outcome, Way, step_by};
 use crate::run::{cell_at, is_in_code, leave};
@@ -17,7 +17,7 @@ fn note(noted: &mut [StepAt], at: usize, pc: i64, back: bool)
     requires at { at < length noted.old }
     requires low { pos 0 ≤ℤ pc }
     requires high { pc <ℤ pos (2 ^ 32) }
-    ensures { noted.new ≡ slice_set noted.old at (record { place = place_of pc; back = back }) }
+    ensures { noted.new ≡ slice_set noted.old at (record { place = code_address pc; back = back }) }
 {
     noted[at] = StepAt {
         place: pc as u32,
@@ -38,10 +38,10 @@ fn note_one_way<C: Cells, L: Ledger>(
 ) -> usize
     requires code { IsCode code.now }
     requires back { back ≡ core.old.back }
-    ensures makes { steps_made code.now result (state_of core.old (C.words cells.old))
-        ≡ Some (state_of core.new (C.words cells.new)) }
+    ensures makes { steps_made code.now result (core_state core.old (C.words cells.old))
+        ≡ Some (core_state core.new (C.words cells.new)) }
     ensures notes { take result noted.new
-        ≡ counted_steps code.now result (state_of core.old (C.words cells.old)) }
+        ≡ counted_steps code.now result (core_state core.old (C.words cells.old)) }
     ensures within { result ≤ length noted.old }
     ensures counter { steps.new ≡ steps.old + result }
 {
@@ -80,10 +80,10 @@ pub(crate) fn note_leg<C: Cells, L: Ledger>(
     steps: &mut Steps<L>,
 ) -> usize
     requires { IsCode code.now }
-    ensures makes { steps_made code.now result (state_of core.old (C.words cells.old))
-        ≡ Some (state_of core.new (C.words cells.new)) }
+    ensures makes { steps_made code.now result (core_state core.old (C.words cells.old))
+        ≡ Some (core_state core.new (C.words cells.new)) }
     ensures notes { take result noted.new
-        ≡ counted_steps code.now result (state_of core.old (C.words cells.old)) }
+        ≡ counted_steps code.now result (core_state core.old (C.words cells.old)) }
     ensures within { result ≤ length noted.old }
     ensures counter { steps.new ≡ steps.old + result }
 {

@@ -5,7 +5,7 @@ ghost use Rattle.pisa_isa.specs.rpp_words.Words.{sum_of};
 ghost use Rattle.pisa_isa.specs.Table.{IsCell};
 ghost use Rattle.pisa_isa.specs.Machine.{below_zero, stride, place_moved, stop_in, effect, moved};
 ghost use Rattle.pisa_isa.specs.Directions.{row_by, has_cell_at, sum_by, turned_by, offset_by, stop_by};
-ghost use Rattle.pisa_machine.specs.Ways.{state_at, stop_of, back_behind};
+ghost use Rattle.pisa_machine.specs.Ways.{state_with, stop_of, back_behind};
 
 use pisa_isa::{Cell, Cells, Op, Stop};
 use rpp_words::{
@@ -178,16 +178,16 @@ fn act<C: Cells>(
     requires { IsCell cell.now }
     ensures stops { stop_of result
         ≡ stop_by cell.now.op back (slice_index regs.old cell.now.b) cell.now.imm
-        (state_at way.old.pc way.old.br back regs.old (C.words cells.old)) }
+        (state_with way.old.pc way.old.br back regs.old (C.words cells.old)) }
     ensures stays { IsSome (stop_of result)
-        → state_at way.new.pc way.new.br back regs.new (C.words cells.new)
-        ≡ state_at way.old.pc way.old.br back regs.old (C.words cells.old) }
+        → state_with way.new.pc way.new.br back regs.new (C.words cells.new)
+        ≡ state_with way.old.pc way.old.br back regs.old (C.words cells.old) }
     ensures acts { IsTrue (has_cell_at cell.now.op (slice_index regs.old cell.now.b)
-        (state_at way.old.pc way.old.br back regs.old (C.words cells.old)))
-        → state_at way.new.pc way.new.br (back_behind result back) regs.new (C.words cells.new)
+        (state_with way.old.pc way.old.br back regs.old (C.words cells.old)))
+        → state_with way.new.pc way.new.br (back_behind result back) regs.new (C.words cells.new)
         ≡ row_by cell.now.op back cell.now.a (slice_index regs.old cell.now.a)
         (slice_index regs.old cell.now.b) cell.now.c cell.now.imm
-        (state_at way.old.pc way.old.br back regs.old (C.words cells.old)) }
+        (state_with way.old.pc way.old.br back regs.old (C.words cells.old)) }
     ensures place { way.new.pc ≡ way.old.pc }
 {
     match cell.op {
@@ -332,13 +332,13 @@ fn act_by<C: Cells>(
 ) -> Outcome
     requires cell { IsCell cell.now }
     ensures stops { stop_of result ≡ stop_in cell.now.op cell.now
-        (state_at way.old.pc way.old.br back regs.old (C.words cells.old)) }
+        (state_with way.old.pc way.old.br back regs.old (C.words cells.old)) }
     ensures stays { IsSome (stop_of result)
-        → state_at way.new.pc way.new.br back regs.new (C.words cells.new)
-        ≡ state_at way.old.pc way.old.br back regs.old (C.words cells.old) }
+        → state_with way.new.pc way.new.br back regs.new (C.words cells.new)
+        ≡ state_with way.old.pc way.old.br back regs.old (C.words cells.old) }
     ensures acts { IsNone (stop_of result)
-        → state_at way.new.pc way.new.br (back_behind result back) regs.new (C.words cells.new)
-        ≡ effect cell.now (state_at way.old.pc way.old.br back regs.old (C.words cells.old)) }
+        → state_with way.new.pc way.new.br (back_behind result back) regs.new (C.words cells.new)
+        ≡ effect cell.now (state_with way.old.pc way.old.br back regs.old (C.words cells.old)) }
     ensures place { way.new.pc ≡ way.old.pc }
 {
     act(regs, way, cell, back, cells)
@@ -357,13 +357,13 @@ pub(crate) fn step_by<C: Cells>(
     requires low { pos 0 ≤ℤ way.old.pc }
     requires high { way.old.pc ≤ℤ pos (2 ^ 32) }
     ensures stops { stop_of result ≡ stop_in cell.now.op cell.now
-        (state_at way.old.pc way.old.br back regs.old (C.words cells.old)) }
+        (state_with way.old.pc way.old.br back regs.old (C.words cells.old)) }
     ensures stays { IsSome (stop_of result)
-        → state_at way.new.pc way.new.br back regs.new (C.words cells.new)
-        ≡ state_at way.old.pc way.old.br back regs.old (C.words cells.old) }
+        → state_with way.new.pc way.new.br back regs.new (C.words cells.new)
+        ≡ state_with way.old.pc way.old.br back regs.old (C.words cells.old) }
     ensures goes { IsNone (stop_of result)
-        → state_at way.new.pc way.new.br (back_behind result back) regs.new (C.words cells.new)
-        ≡ moved (effect cell.now (state_at way.old.pc way.old.br back regs.old (C.words cells.old))) }
+        → state_with way.new.pc way.new.br (back_behind result back) regs.new (C.words cells.new)
+        ≡ moved (effect cell.now (state_with way.old.pc way.old.br back regs.old (C.words cells.old))) }
 {
     let outcome = act_by(regs, way, cell, back, cells);
     match outcome {

@@ -1,7 +1,7 @@
 // Runs of at most so many steps.
 ghost use Rattle.std.specs.Prelude.{◌≡◌, ◌<◌, ◌≤◌, ◌+◌, ◌↔◌, pos, ◌≤ℤ◌, ◌<ℤ◌, length, IsSome, IsNone, IsTrue, Some};
 ghost use Rattle.pisa_isa.specs.Table.{IsCell};
-ghost use Rattle.pisa_isa.specs.Machine.{state_of, stop, fetch, IsCode};
+ghost use Rattle.pisa_isa.specs.Machine.{core_state, stop, fetch, IsCode};
 ghost use Rattle.pisa_isa.specs.Runs.{run, steps as steps_made, counted, counted_by, stop_at_bound};
 
 use crate::rows::{Outcome, Way, step_by};
@@ -92,10 +92,10 @@ fn run_one_way<C: Cells, L: Ledger>(
 ) -> Leg
     requires code { IsCode code.now }
     requires back { back ≡ core.old.back }
-    ensures makes { steps_made code.now result.made (state_of core.old (C.words cells.old))
-        ≡ Some (state_of core.new (C.words cells.new)) }
+    ensures makes { steps_made code.now result.made (core_state core.old (C.words cells.old))
+        ≡ Some (core_state core.new (C.words cells.new)) }
     ensures stops { IsSome result.stop
-        → result.stop ≡ stop code.now (state_of core.new (C.words cells.new)) }
+        → result.stop ≡ stop code.now (core_state core.new (C.words cells.new)) }
     ensures within { result.made ≤ bound }
     ensures before { IsSome result.stop → result.made < bound }
     ensures goes { IsNone result.stop → 0 < bound → 0 < result.made }
@@ -145,10 +145,10 @@ fn run_leg<C: Cells, L: Ledger>(
     steps: &mut Steps<L>,
 ) -> Leg
     requires { IsCode code.now }
-    ensures makes { steps_made code.now result.made (state_of core.old (C.words cells.old))
-        ≡ Some (state_of core.new (C.words cells.new)) }
+    ensures makes { steps_made code.now result.made (core_state core.old (C.words cells.old))
+        ≡ Some (core_state core.new (C.words cells.new)) }
     ensures stops { IsSome result.stop
-        → result.stop ≡ stop code.now (state_of core.new (C.words cells.new)) }
+        → result.stop ≡ stop code.now (core_state core.new (C.words cells.new)) }
     ensures within { result.made ≤ bound }
     ensures before { IsSome result.stop → result.made < bound }
     ensures goes { IsNone result.stop → 0 < bound → 0 < result.made }
@@ -181,11 +181,11 @@ pub(crate) fn run_from<C: Cells, L: Ledger>(
     steps: &mut Steps<L>,
 ) -> RunEnd
     requires { IsCode code.now }
-    ensures runs { run code.now bound (state_of core.old (C.words cells.old))
+    ensures runs { run code.now bound (core_state core.old (C.words cells.old))
         ≡ record {
           why = result.stop;
           spent = result.spent;
-          last = state_of core.new (C.words cells.new);
+          last = core_state core.new (C.words cells.new);
         } }
     ensures counter { steps.new ≡ steps.old + result.spent }
     ensures within { result.spent ≤ bound }

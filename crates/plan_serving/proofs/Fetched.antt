@@ -10,7 +10,7 @@ use Rattle.command_plan.specs.rpp_ports.Events.{Event}
 use Rattle.command_plan.specs.declared.plan.NoPlan.{NoPlan}
 use Rattle.command_plan.specs.declared.plan.NoPlan.TheVariants.{NoMemory, Unread}
 use Rattle.command_plan.specs.Files.{Needed, LacksOne}
-use Rattle.command_plan.specs.Reads.{read, Gave, FailsAt, StopsAt, ReadsSome, Asks}
+use Rattle.command_plan.specs.Reads.{read_event, Gave, FailsAt, StopsAt, ReadsSome, Asks}
 use Rattle.plan_serving.specs.Places.{IsBefore, HasPlaces, place_files}
 use Rattle.command_plan.proofs.TwoReads.{cause_by}
 pub use Rattle.command_plan.proofs.TwoReads.{rose_before}
@@ -30,7 +30,7 @@ stops_by : (told : Option Texts) (files : List Needed) (R S : Type 0) (line : Li
 stops_by told [] R S line old new f h = h
 stops_by told (file ∷ files) R S line old new f (inl is) = inl (fails_by told file R S line old new f is)
 stops_by told (file ∷ files) R S line old new f (inr more) =
-    inr (more.0, more.1, stops_by told files R S line (read file (Ok more.0) ∷ old) new f more.2)
+    inr (more.0, more.1, stops_by told files R S line (read_event file (Ok more.0) ∷ old) new f more.2)
 
 stops_first : (told : Option Texts) (file : Needed) (files : List Needed) (R : Type 0) (line : List ℕ)
     (old new : List Event) → StopsAt told (file ∷ []) R line old new → StopsAt told (file ∷ files) R line old new
@@ -48,8 +48,8 @@ some_first file files old new (inr (inl failed)) = inr (inl failed)
 some_first file files old new (inr (inr more)) =
     inr (inr (
       more.0,
-      subst (λ (now : List Event). ReadsSome files (read file (Ok more.0) ∷ old) now) (sym more.1)
-          (some_none files (read file (Ok more.0) ∷ old)),
+      subst (λ (now : List Event). ReadsSome files (read_event file (Ok more.0) ∷ old) now) (sym more.1)
+          (some_none files (read_event file (Ok more.0) ∷ old)),
     ))
 
 gave_some : (told : Option Texts) (files : List Needed) (texts : List (List ℕ)) (old new : List Event)
@@ -58,7 +58,7 @@ gave_some told [] [] old new gave = gave
 gave_some told [] (text ∷ texts) old new gave = absurd gave
 gave_some told (file ∷ files) [] old new gave = absurd gave
 gave_some told (file ∷ files) (text ∷ texts) old new gave =
-    inr (inr (text, gave_some told files texts (read file (Ok text) ∷ old) new gave.1))
+    inr (inr (text, gave_some told files texts (read_event file (Ok text) ∷ old) new gave.1))
 
 -- the first file could not be read
 pub first_asked : {T U : Type 0} (told : Option Texts) (b n : ℕ) (file : Needed) (files : List Needed)
@@ -77,7 +77,7 @@ then_asked {U} told at b m n file files old mid new text r kept later gave more 
     by_result r (subst (λ events. Asks {T = U} told m n files events new r) gave.1
     (subst (λ texts. Asks {T = U} texts m n files mid new r) kept more))
   where
-    by_result : (r : Result U NoPlan) → Asks {T = U} told m n files (read file (Ok text) ∷ old) new r
+    by_result : (r : Result U NoPlan) → Asks {T = U} told m n files (read_event file (Ok text) ∷ old) new r
         → Asks {T = U} told b n (file ∷ files) old new r
     by_result (Ok u) more = record { stops = tt }
     by_result (Err NoMemory) more = record { stops = inr (inr (text, more.stops)) }
@@ -86,7 +86,7 @@ then_asked {U} told at b m n file files old mid new text r kept later gave more 
         text,
         gave.0,
         stops_by told files (Rose m n) (Rose b n) (string_bytes line)
-            (read file (Ok text) ∷ old) new (rose_before b m n later) more.stops,
+            (read_event file (Ok text) ∷ old) new (rose_before b m n later) more.stops,
       );
     }
 
@@ -146,4 +146,4 @@ none_lacks told held place (file ∷ files) (text ∷ texts) old new gave has (i
     let h : file.limit < length text = subst (λ t. IsSomeAnd t (λ text. file.limit < length text)) has.0 long in
     let k : length text ≤ file.limit = gave.0.1 in absurd (omega arith)
 none_lacks told held place (file ∷ files) (text ∷ texts) old new gave has (inr lacks) =
-    none_lacks told held (97 ∷ place) files texts (read file (Ok text) ∷ old) new gave.1 has.1 lacks
+    none_lacks told held (97 ∷ place) files texts (read_event file (Ok text) ∷ old) new gave.1 has.1 lacks

@@ -22,9 +22,9 @@ put_answer (Err broken.Outside) = Err sink.Failed
 put_answer (Err broken.NoMemory) = Err sink.NoMemory
 
 -- the status, by what became of a text: this one, if it was put
-abbrev pub ended : (taken : ℕ) → Result (Unit {0}) Broken → ℕ
-ended taken (Ok _) = taken
-ended taken (Err it) = broken_code it
+abbrev pub ended_status : (taken : ℕ) → Result (Unit {0}) Broken → ℕ
+ended_status taken (Ok _) = taken
+ended_status taken (Err it) = broken_code it
 
 -- the status after a put: this one, if the sink took the text
 abbrev pub after_put : (status : ℕ) → Result (Unit {0}) SinkFault → ℕ

@@ -52,8 +52,8 @@ LeavesUnsaid failed lacks old new text NoMemory = lacks × Keeps old new
 LeavesUnsaid failed lacks old new text Outside = failed × AppendsPrefix old new text
 
 -- a plan was aborted: at its file, or, with the file written, at its text
-abbrev pub BreaksOff : (before after : Option Texts) → (rose failed lacks : Type 0)
+abbrev pub AbortsServing : (before after : Option Texts) → (rose failed lacks : Type 0)
     → (old new : Option (List ℕ)) → Planned → Broken → Type 0
-BreaksOff before after rose failed lacks old new p broken =
+AbortsServing before after rose failed lacks old new p broken =
     IsSomeAnd p.writing (λ w. LeavesUnwritten before after rose failed lacks old new w broken)
     ⊎ (Leaves before after p.writing × LeavesUnsaid failed lacks old new p.text broken)

@@ -1,6 +1,6 @@
 // The texts of files, read one after the other.
 ghost use Rattle.std.specs.Prelude.{◌≡◌, ◌∷◌, map, IfOk, IfErr};
-ghost use Rattle.command_plan.specs.rpp_ports.Memory.{text_of};
+ghost use Rattle.command_plan.specs.rpp_ports.Memory.{file_text};
 ghost use Rattle.command_plan.specs.declared.plan.NoPlan.TheVariants.{NoMemory};
 ghost use Rattle.command_plan.specs.Files.{OnlyReads};
 ghost use Rattle.command_plan.specs.Reads.{Gave, Asks};
@@ -29,7 +29,7 @@ pub fn fetch<S: Shelf>(
 ) -> Result<Vec<Named>, NoPlan>
     ensures gave { IfOk result (λ read. Gave (S.texts shelf.old) (map file_of files.now)
         (map held_bytes read.items) (S.events shelf.old) (S.events shelf.new)) }
-    ensures places { IfOk result (λ read. HasPlaces (text_of read.items) place.now
+    ensures places { IfOk result (λ read. HasPlaces (file_text read.items) place.now
         (map held_bytes read.items)) }
     ensures asks { Asks (S.texts shelf.old) (S.faults shelf.old) (S.faults shelf.new)
         (map file_of files.now) (S.events shelf.old) (S.events shelf.new) result }
@@ -59,8 +59,8 @@ fn with_first(
 ) -> Result<Vec<Named>, NoPlan>
     ensures texts { IfOk result (λ read. map held_bytes read.items
         ≡ bytes.items ∷ map held_bytes others.items) }
-    ensures held { IfOk result (λ read. IsBefore place.now bytes.items (text_of others.items)
-        (text_of read.items)) }
+    ensures held { IfOk result (λ read. IsBefore place.now bytes.items (file_text others.items)
+        (file_text read.items)) }
     ensures memory { IfErr result (λ stop. stop ≡ NoMemory) }
 {
     let mut read = others;

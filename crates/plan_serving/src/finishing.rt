@@ -3,11 +3,11 @@ ghost use Rattle.std.specs.Prelude.{◌≡◌, ◌⊎◌, ◌≤◌, OnOk, IfOk,
 ghost use Rattle.std.specs.Io.KnownBytes.{Appends, Keeps};
 ghost use Rattle.command_plan.specs.rpp_ports.Ports.{Rose, SetsText, AppendsPrefix};
 ghost use Rattle.command_plan.specs.rpp_ports.declared.sink.SinkFault.{SinkFault};
-ghost use Rattle.command_plan.specs.Plans.{planned, written};
+ghost use Rattle.command_plan.specs.Plans.{planned, written_file};
 ghost use Rattle.command_plan.specs.command_ends.Statuses.{code_of, broken_code};
 ghost use Rattle.plan_serving.specs.Outside.{HasWritten, HasPut};
-ghost use Rattle.plan_serving.specs.Finishes.{unwritten, FailsToWrite, CannotWrite, Finishes, put_answer, ended};
-ghost use Rattle.plan_serving.specs.Left.{Leaves, Tries, LeavesUnwritten, BreaksOff, KeepsButTarget};
+ghost use Rattle.plan_serving.specs.Finishes.{unwritten, FailsToWrite, CannotWrite, Finishes, put_answer, ended_status};
+ghost use Rattle.plan_serving.specs.Left.{Leaves, Tries, LeavesUnwritten, AbortsServing, KeepsButTarget};
 
 use command_plan::{Broken, Plan, Writing};
 use rpp_ports::{Shelf, ShelfFault, Sink, SinkFault};
@@ -69,17 +69,17 @@ fn write_file<S: Shelf, K: Sink>(
     ensures broken { IfErr result (LeavesUnwritten (S.texts shelf.old) (S.texts shelf.new)
         (Rose (S.faults shelf.old) (S.faults shelf.new))
         (Rose (K.faults out.old) (K.faults out.new)) (IsTrue (K.needs_memory out.old))
-        (K.written out.old) (K.written out.new) (written writing.now)) }
-    ensures wrote { OnOk result (HasWritten (written writing.now) (Ok tt)
+        (K.written out.old) (K.written out.new) (written_file writing.now)) }
+    ensures wrote { OnOk result (HasWritten (written_file writing.now) (Ok tt)
         (record { texts = S.texts shelf.old; calls = S.events shelf.old })
         (record { texts = S.texts shelf.new; calls = S.events shelf.new })) }
-    ensures fails { IfErr result (λ broken. FailsToWrite (written writing.now)
+    ensures fails { IfErr result (λ broken. FailsToWrite (written_file writing.now)
         (record { texts = S.texts shelf.old; calls = S.events shelf.old })
         (record { texts = S.texts shelf.new; calls = S.events shelf.new })
         (record { bytes = K.written out.old; puts = K.puts out.old })
         (record { bytes = K.written out.new; puts = K.puts out.new })
         (broken_code broken)
-        ⊎ CannotWrite (written writing.now)
+        ⊎ CannotWrite (written_file writing.now)
         (record { texts = S.texts shelf.old; calls = S.events shelf.old })
         (record { texts = S.texts shelf.new; calls = S.events shelf.new })
         (record { bytes = K.written out.old; puts = K.puts out.old })
@@ -119,7 +119,7 @@ pub fn finish<S: Shelf, K: Sink>(
         (planned plan.now).writing) }
     ensures said { OnOk result (Appends (K.written out.old) (K.written out.new)
         (planned plan.now).text) }
-    ensures broken { IfErr result (BreaksOff (S.texts shelf.old) (S.texts shelf.new)
+    ensures broken { IfErr result (AbortsServing (S.texts shelf.old) (S.texts shelf.new)
         (Rose (S.faults shelf.old) (S.faults shelf.new))
         (Rose (K.faults out.old) (K.faults out.new)) (IsTrue (K.needs_memory out.old))
         (K.written out.old) (K.written out.new) (planned plan.now)) }
@@ -131,7 +131,7 @@ pub fn finish<S: Shelf, K: Sink>(
         (record { texts = S.texts shelf.new; calls = S.events shelf.new })
         (record { bytes = K.written out.old; puts = K.puts out.old })
         (record { bytes = K.written out.new; puts = K.puts out.new })
-        (ended (code_of (planned plan.now).verdict) result) }
+        (ended_status (code_of (planned plan.now).verdict) result) }
     ensures outside { IsErrOf result Broken.Outside
         → Rose (S.faults shelf.old) (S.faults shelf.new)
         ⊎ Rose (K.faults out.old) (K.faults out.new) }

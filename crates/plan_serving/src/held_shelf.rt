@@ -13,12 +13,12 @@ pub struct HeldShelf {
 }
 
 impl HeldShelf {
-    ghost use Rattle.command_plan.specs.rpp_ports.Memory.{text_of};
+    ghost use Rattle.command_plan.specs.rpp_ports.Memory.{file_text};
     ghost use Rattle.plan_serving.specs.Held.{held_texts};
 
     /// A file store with these texts; if two share a name, the first counts.
     pub fn new(alloc: Global, texts: Vec<Named>) -> Self
-        ensures { held_texts result ≡ text_of texts.items }
+        ensures { held_texts result ≡ file_text texts.items }
     {
         HeldShelf {
             shelf: MemoryShelf::new(alloc, texts, Vec::new(alloc)),

@@ -16,7 +16,7 @@ use Rattle.refine_program.specs.class_rules.Members.{class_at, no_procedure}
 use Rattle.refine_program.specs.class_rules.Classes.{procedure_at}
 use Rattle.refine_program.specs.class_rules.Inheritance.{kind_of_var}
 use Rattle.refine_program.specs.class_rules.Table.{table_of}
-use Rattle.refine_program.specs.class_rules.Statements.{passed, each_passes_after, check_statements}
+use Rattle.refine_program.specs.class_rules.Statements.{verdict_passed, each_passes_after, check_statements}
 use Rattle.refine_program.specs.class_rules.Program.{IsAccepted, parameter_new, with_parameters, setting_in}
 use Rattle.refine_program.proofs.class_rules_laws.PassedRules.{both_passed}
 use Rattle.refine_program.proofs.class_rules_laws.InheritedSlots.{class_there}
@@ -71,7 +71,7 @@ module _ (program : Program) (accepted : IsAccepted (source_of program)) (id : M
 
   rules : check_statements (setting_in text (table_of text) id.class)
       (map (λ (var : Var). record { name = var.name.text; kind = kind_of_var text var }) method.params) method.body
-      ≡ passed
+      ≡ verdict_passed
   rules =
       let checked = method_checked text accepted id.class id.method method inside there in
       let both = both_passed (each_passes_after parameter_new [] method.params)

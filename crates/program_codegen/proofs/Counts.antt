@@ -10,11 +10,11 @@ use Rattle.refine_program.specs.class_rules.Members.{class_at}
 use Rattle.refine_program.proofs.class_rules_laws.InheritedSlots.{class_there}
 use Rattle.refine_program.specs.paired_code.Code.{Code, bodies, marks_size}
 use Rattle.refine_program.specs.paired_code.Link.{routines_size}
-use Rattle.refine_program.specs.Methods.{Entry, entries_of, entries_from, entries, methods_before}
+use Rattle.refine_program.specs.Methods.{RoutineEntry, entries_of, entries_from, entries, methods_before}
 use Rattle.program_codegen.specs.Routines.{IsRoutine}
 use Rattle.program_codegen.proofs.Tables.{firsts_next}
 
-abbrev pub entry_tokens : Entry → ℕ
+abbrev pub entry_tokens : RoutineEntry → ℕ
 entry_tokens entry = procedure_tokens entry.method
 
 -- ---- the methods and their tokens
@@ -45,7 +45,7 @@ of_classes number (c ∷ classes) =
 pub tokens_within : (program : Source) → sum_by entry_tokens (entries program) ≤ source_tokens program
 tokens_within program = of_classes 0 program.classes
 
-few : (es : List Entry) → length es ≤ sum_by entry_tokens es
+few : (es : List RoutineEntry) → length es ≤ sum_by entry_tokens es
 few [] = omega arith
 few (e ∷ es) = omega (arith, sum_by-cons entry_tokens e es, few es)
 
@@ -85,7 +85,7 @@ class_few program class inside =
 -- ---- the fragments of their routines
 
 module _ (program : Source) where
-  pub cells_few : (es : List Entry) (ps : List Code) → AllZip (IsRoutine program) es ps
+  pub cells_few : (es : List RoutineEntry) (ps : List Code) → AllZip (IsRoutine program) es ps
       → routines_size (bodies ps) ≤ 200 * sum_by entry_tokens es
   cells_few [] [] h = omega arith
   cells_few [] (p ∷ ps) h = absurd h
@@ -95,7 +95,7 @@ module _ (program : Source) where
       let more = cells_few es ps h.1 in
       omega (arith, sum_by-cons entry_tokens e es)
 
-  pub marks_few : (es : List Entry) (ps : List Code) → AllZip (IsRoutine program) es ps
+  pub marks_few : (es : List RoutineEntry) (ps : List Code) → AllZip (IsRoutine program) es ps
       → marks_size ps ≤ sum_by entry_tokens es
   marks_few [] [] h = omega arith
   marks_few [] (p ∷ ps) h = absurd h

@@ -8,7 +8,7 @@ use Rattle.rpp_tree.specs.declared.tree.Method.{Method}
 use Rattle.rpp_tree.specs.Tree.{Procedure, ClassText, Source}
 use Rattle.rpp_tree.specs.Views.{procedure_of}
 use Rattle.refine_program.specs.paired_code.Code.{Code, bodies}
-use Rattle.refine_program.specs.Methods.{Entry, entries_of, entries_from}
+use Rattle.refine_program.specs.Methods.{RoutineEntry, entries_of, entries_from}
 use Rattle.refine_program.specs.Laws.{AreRoutineCodes}
 use Rattle.program_codegen.specs.Routines.{IsRoutine}
 
@@ -40,7 +40,7 @@ zip_append P (x ∷ xs) [] us vs h k = absurd h
 zip_append P (x ∷ xs) (y ∷ ys) us vs h k = (h.0, zip_append P xs ys us vs h.1 k)
 
 module _ (program : Source) where
-  pub codes_of : (es : List Entry) (ps : List Code) → AllZip (IsRoutine program) es ps
+  pub codes_of : (es : List RoutineEntry) (ps : List Code) → AllZip (IsRoutine program) es ps
       → AreRoutineCodes program es (bodies ps)
   codes_of [] [] h = tt
   codes_of [] (p ∷ ps) h = absurd h

@@ -11,7 +11,7 @@ use Rattle.rpp_tree.specs.declared.tree.Ident.{Ident}
 use Rattle.rpp_tree.specs.declared.tree.Var.{Var}
 use Rattle.rpp_tree.specs.Parts.{type_names, var_names, procedure_names, parent_names, class_names, source_names}
 use Rattle.rpp_tree.specs.Tree.{ClassText, Source}
-use Rattle.refine_program.specs.class_rules.Chains.{parents, chain, chain_of, line_of}
+use Rattle.refine_program.specs.class_rules.Chains.{parents, chain, chain_of, class_line}
 use Rattle.refine_program.specs.class_rules.Members.{class_at, no_class, fields_along}
 use Rattle.refine_program.specs.class_rules.Classes.{class_fields}
 use Rattle.refine_program.proofs.class_rules_laws.ChainEnds.{parent, IsPushed, pushed_from, nothing_on, parents_in, chain_ends}
@@ -111,7 +111,7 @@ own_number : (n class number : ℕ) → class < n → Some class ≡ Some number
 own_number n class number inside e = let same : class ≡ number = cc in subst (λ k. k < n) same inside
 
 chain_sum : (program : Source) (class : ℕ) (weights : List ℕ) → class < length program.classes
-    → sum_by (weight_at weights) (line_of program class) ≤ sum weights
+    → sum_by (weight_at weights) (class_line program class) ≤ sum weights
 chain_sum program class weights inside = by (chain_of program class) refl
   where
     by : (r : Option (List ℕ)) → chain_of program class ≡ r → sum_by (weight_at weights) (unwrap_or r []) ≤ sum weights
@@ -191,7 +191,7 @@ module _ (count : List ℕ → ℕ) where
   field_names_sum program class inside =
       omega (
         arith,
-        along_sum program (line_of program class),
+        along_sum program (class_line program class),
         chain_sum program class (map class_count program.classes) inside,
         source_sum program.classes,
       )

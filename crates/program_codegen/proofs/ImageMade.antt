@@ -14,12 +14,12 @@ use Rattle.refine_program.specs.pisa_isa.Image.{Segments}
 use Rattle.refine_program.specs.paired_code.declared.part.StaticWord.{StaticWord}
 use Rattle.refine_program.specs.paired_code.declared.part.Symbol.{Symbol}
 use Rattle.refine_program.specs.paired_code.Code.{Code, bodies, shift, routine_marks, link_marks, marks_size}
-use Rattle.refine_program.specs.paired_code.Link.{places, first_top, link_code, link_size, static_word, Linked}
+use Rattle.refine_program.specs.paired_code.Link.{link_positions, first_top, link_code, link_size, static_word, Linked}
 use Rattle.refine_program.proofs.paired_code_laws.Linking.{length-link}
 use Rattle.refine_program.specs.roopl_semantics.StandsFor.{StandsFor}
 use Rattle.refine_program.specs.method_calls.Laws.{MainCode}
 use Rattle.refine_program.specs.Laws.{most_cells, IsProgramImage}
-use Rattle.refine_program.specs.Methods.{Entry, entries, main_routine, statics_of}
+use Rattle.refine_program.specs.Methods.{RoutineEntry, entries, main_routine, statics_of}
 use Rattle.program_codegen.specs.Notes.{unmarked_from, HasMarks}
 use Rattle.program_codegen.specs.Routines.{IsRoutine, AreRoutines}
 use Rattle.refine_program.proofs.Stated.{linked_programs_stand, program_images_have_routines, statics_are_few}
@@ -54,13 +54,13 @@ module _ (program : Source) (pieces : List Code) (are : AreRoutines program piec
   code_size main code long is = omega (arith, ap length is, length-link main (bodies pieces), few_cells main long)
 
   module _ (main : Code) (image : Segments) (law : Linked main.cells (bodies pieces)
-      (record { code = image.code; routines = places (first_top main.cells) (bodies pieces) })) where
+      (record { code = image.code; routines = link_positions (first_top main.cells) (bodies pieces) })) where
     pub is_program_image : IsAccepted program → (number : ℕ) → MainCode number main.cells
         → number ≡ 1 + main_routine program
-        → image.statics ≡ statics_of program 1 (places (first_top main.cells) (bodies pieces))
+        → image.statics ≡ statics_of program 1 (link_positions (first_top main.cells) (bodies pieces))
         → IsProgramImage program main.cells are.allocator.cells (bodies are.methods) image
     is_program_image accepted number made is statics =
-        let at : List (List Symbol) → List ℕ = places (first_top main.cells) in
+        let at : List (List Symbol) → List ℕ = link_positions (first_top main.cells) in
         record {
           accepted = accepted;
           main_code = subst (λ n. MainCode n main.cells) is made;
@@ -76,7 +76,7 @@ module _ (program : Source) (pieces : List Code) (are : AreRoutines program piec
     stands is = linked_programs_stand program main.cells are.allocator.cells (bodies are.methods) image is
 
     -- the cells outside of bodies, and few of theirs
-    few_unmarked : (es : List Entry) (ps : List Code) → AllZip (IsRoutine program) es ps → spare ps ≤ 12 * length es
+    few_unmarked : (es : List RoutineEntry) (ps : List Code) → AllZip (IsRoutine program) es ps → spare ps ≤ 12 * length es
     few_unmarked [] [] h = omega arith
     few_unmarked [] (p ∷ ps) h = absurd h
     few_unmarked (e ∷ es) [] h = absurd h
@@ -90,7 +90,7 @@ module _ (program : Source) (pieces : List Code) (are : AreRoutines program piec
         → HasMarks program image marks
     has_marks is marks long none code same ascending =
         let first = first_top main.cells in
-        let starts = places first (bodies (are.allocator ∷ are.methods)) in
+        let starts = link_positions first (bodies (are.allocator ∷ are.methods)) in
         let has = program_images_have_routines program main.cells are.allocator.cells (bodies are.methods) image is in
         let next = first + 1 + 1 + 1 + length are.allocator.cells + 1 in
         let r = ranges_of program image starts is.accepted has 1 next (entries program) are.methods are.codes
@@ -130,7 +130,7 @@ module _ (program : Source) (pieces : List Code) (are : AreRoutines program piec
 
 -- the static cells are few
 pub few_statics : (program : Source) (words : List StaticWord) → IsAccepted program
-    → ((places : List ℕ) → map (static_word places) words ≡ statics_of program 1 places) → length words ≤ most_cells
+    → ((link_positions : List ℕ) → map (static_word link_positions) words ≡ statics_of program 1 link_positions) → length words ≤ most_cells
 few_statics program words accepted are =
     let e : length words ≡ length (statics_of program 1 []) = sym (length-map words (static_word []))
     ∙ ap length (are []) in

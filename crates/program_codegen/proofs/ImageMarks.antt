@@ -22,13 +22,13 @@ use Rattle.statement_codegen.specs.Ranges.{IsRange, AreNested}
 use Rattle.statement_codegen.specs.Pieces.{IsRowCode}
 use Rattle.statement_codegen.proofs.Nesting.{each_append, each_moved, each_all, shift_same, all_moved, nested_moved}
 use Rattle.statement_codegen.proofs.Nesting.{nested_append, IsBetween, apart_by}
-use Rattle.refine_program.specs.refine_form.Form.{Open, told, one, turned}
+use Rattle.refine_program.specs.refine_form.Form.{HasOpenFrame, run_result, one, turned_statement}
 use Rattle.refine_program.specs.refine_form.Worlds.{Place, world_of, rates_of}
 use Rattle.refine_program.specs.paired_code.Does.{Meets}
 use Rattle.refine_program.specs.class_rules.Program.{IsAccepted}
 use Rattle.refine_program.specs.refine_calls.Laws.{IsLinked}
-use Rattle.refine_program.specs.Methods.{Entry, routine_in}
-use Rattle.refine_program.specs.Laws.{place_of, HasRoutines}
+use Rattle.refine_program.specs.Methods.{RoutineEntry, routine_in}
+use Rattle.refine_program.specs.Laws.{statement_address, HasRoutines}
 use Rattle.program_codegen.specs.Notes.{method_rows, rows_of, WillGo, IsStatementMark}
 use Rattle.program_codegen.specs.Routines.{IsRoutine}
 
@@ -50,7 +50,7 @@ module _ (program : Source) (image : Segments) (starts : List ℕ) (accepted : I
   im = record { code = image.code; routines = starts }
 
   abbrev here : Limits → Place
-  here = place_of program image starts has.bodies has.tops
+  here = statement_address program image starts has.bodies has.tops
 
   linked : (limits : Limits) → IsLinked (here limits) (routine_in program)
   linked limits = record { accepted = accepted; routed = has.linked limits }
@@ -77,9 +77,9 @@ module _ (program : Source) (image : Segments) (starts : List ℕ) (accepted : I
           does = λ n d u st m frame.
               let law = h.law.law (here limits) (routine_in program) (linked limits) refl n
               (has.owed limits (suc n)) d u in
-              subst (λ e. WillGo im d (at + k.first) e m (Meets (Open (world_of (here limits)) row.scope u)
-              (rates_of (here limits).setting) (suc n) 0 (told
-              (one (here limits).setting n (turned d row.statement) st)))) long
+              subst (λ e. WillGo im d (at + k.first) e m (Meets (HasOpenFrame (world_of (here limits)) row.scope u)
+              (rates_of (here limits).setting) (suc n) 0 (run_result
+              (one (here limits).setting n (turned_statement d row.statement) st)))) long
               ((law.does st m frame).will code_line (at + k.first) (omega (arith, long, short, b))
               (there_in im at p k.first k.end a b stands));
         };
@@ -94,7 +94,7 @@ module _ (program : Source) (image : Segments) (starts : List ℕ) (accepted : I
     pub last : ℕ
     pub between : All (IsBetween at last) ranges
 
-  pub ranges_of : (n at : ℕ) (es : List Entry) (ps : List Code) → AllZip (IsRoutine program) es ps
+  pub ranges_of : (n at : ℕ) (es : List RoutineEntry) (ps : List Code) → AllZip (IsRoutine program) es ps
       → AllPlaced im n at (bodies ps) → Ranges at (rows_of es) (routine_marks at ps)
   ranges_of n at [] [] h placed = record {
     ranges = [];

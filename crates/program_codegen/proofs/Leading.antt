@@ -8,11 +8,11 @@ use Rattle.refine_program.specs.pisa_isa.Image.{Segments}
 use Rattle.refine_program.specs.paired_code.declared.part.Symbol.{Symbol}
 use Rattle.refine_program.specs.refine_calls.Laws.{IsRouted}
 use Rattle.refine_program.specs.Methods.{routine_in}
-use Rattle.refine_program.specs.Laws.{place_of}
+use Rattle.refine_program.specs.Laws.{statement_address}
 use Rattle.program_codegen.specs.Subroutines.{TablesLeadToSwapbr, CallsEnterBySwapbr}
 
 linked_leads : (program : Source) (image : Segments) (starts : List ℕ) (bodies : List (List Symbol)) (tops : ℕ → ℕ)
-    (limits : Limits) → IsRouted (place_of program image starts bodies tops limits) (routine_in program)
+    (limits : Limits) → IsRouted (statement_address program image starts bodies tops limits) (routine_in program)
     → TablesLeadToSwapbr program image
 linked_leads program image starts bodies tops limits linked = record {
   starts = starts;

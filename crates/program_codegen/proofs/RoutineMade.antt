@@ -12,7 +12,7 @@ use Rattle.refine_program.specs.class_rules.Members.{class_at}
 use Rattle.refine_program.specs.class_rules.Program.{IsAccepted}
 use Rattle.refine_program.specs.pisa_isa.declared.notes.Mark.{Mark}
 use Rattle.refine_program.specs.paired_code.Code.{Code, shift}
-use Rattle.refine_program.specs.refine_form.Held.{Holds}
+use Rattle.refine_program.specs.refine_form.Held.{HoldsCode}
 use Rattle.statement_codegen.specs.code_scope.Visible.{Visible}
 use Rattle.statement_codegen.specs.Codes.{IsBlockCode, IsMethodCode}
 use Rattle.statement_codegen.specs.Laws.{RoutineLaw}
@@ -42,7 +42,7 @@ module _ (program : Program) (accepted : IsAccepted (source_of program)) (id : M
       → IsBlockCode v method.body body.cells → HaveMarks v method.body body
       → length body.cells ≤ 200 * block_tokens method.body → length body.marks ≤ block_tokens method.body
       → IsCovered body
-      → RoutineLaw w body.cells p.cells → Holds body p → length p.cells ≡ length body.cells + 8
+      → RoutineLaw w body.cells p.cells → HoldsCode body p → length p.cells ≡ length body.cells + 8
       → IsRoutine (source_of program) (record { class = id.class; method = method }) p
   routine_made v w body p v_is w_is code marks size few covered law held long =
       let here = begun_is v v_is in

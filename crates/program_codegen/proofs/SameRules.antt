@@ -14,7 +14,7 @@ use Rattle.refine_program.specs.class_rules.Overrides.{parameters_of}
 use Rattle.refine_program.specs.class_rules.Refusal.{Refusal, unknown_name, type_differs, wrong_arity}
 use Rattle.refine_program.specs.class_rules.Scope.{Typing, Locals, kind_of, local_kind, field_kind, kind_in, class_kind}
 use Rattle.refine_program.specs.class_rules.Table.{class_of, slot_in, dispatch_in}
-use Rattle.refine_program.specs.class_rules.Expressions.{and_then, is_int, type_of, place_type, variable_type, element_of}
+use Rattle.refine_program.specs.class_rules.Expressions.{then_checked, is_int, type_of, place_type, variable_type, element_kind_of}
 use Rattle.refine_program.specs.class_rules.Expressions.{operator_type, index_is_int, first_token}
 use Rattle.refine_program.specs.class_rules.Statements.{Verdict, required, in_turn, each_passes, each_passes_after, same_kind}
 use Rattle.refine_program.specs.class_rules.Statements.{update_rules, swap_rules, test_rules, local_rules, length_is_int, make_rules}
@@ -41,16 +41,16 @@ module _ (setting : Typing) (locals shape : Locals) (means : MeansSame locals sh
   type_same (Null at) = refl
   type_same (Variable name) = variable_same name
   type_same (Element name index) =
-      ap (λ z. and_then z (λ array. and_then (element_of name array)
-      (λ element. and_then (type_of setting locals index) (index_is_int element (first_token index)))))
+      ap (λ z. then_checked z (λ array. then_checked (element_kind_of name array)
+      (λ element. then_checked (type_of setting locals index) (index_is_int element (first_token index)))))
       (variable_same name)
-      ∙ ap (λ z. and_then (variable_type setting shape name)
-      (λ array. and_then (element_of name array) (λ element. and_then z
+      ∙ ap (λ z. then_checked (variable_type setting shape name)
+      (λ array. then_checked (element_kind_of name array) (λ element. then_checked z
       (index_is_int element (first_token index))))) (type_same index)
   type_same (Binary at operator left right) =
-      ap (λ z. and_then z (λ a. and_then (type_of setting locals right)
+      ap (λ z. then_checked z (λ a. then_checked (type_of setting locals right)
       (λ b. operator_type setting.table at operator a b))) (type_same left)
-      ∙ ap (λ z. and_then (type_of setting shape left) (λ a. and_then z
+      ∙ ap (λ z. then_checked (type_of setting shape left) (λ a. then_checked z
       (λ b. operator_type setting.table at operator a b))) (type_same right)
 
   place_same : (place : Lvalue) → place_type setting locals place ≡ place_type setting shape place
@@ -78,8 +78,8 @@ module _ (setting : Typing) (locals shape : Locals) (means : MeansSame locals sh
 
   length_same : (made : Creation) → length_is_int setting locals made ≡ length_is_int setting shape made
   length_same (Object class) = refl
-  length_same (Ints length) = ap (λ z. and_then z (λ l. Ok (is_int l))) (type_same length)
-  length_same (Objects class length) = ap (λ z. and_then z (λ l. Ok (is_int l))) (type_same length)
+  length_same (Ints length) = ap (λ z. then_checked z (λ l. Ok (is_int l))) (type_same length)
+  length_same (Objects class length) = ap (λ z. then_checked z (λ l. Ok (is_int l))) (type_same length)
 
   make_same : (at : ℕ) (made : Creation) (place : Lvalue)
       → make_rules setting locals at made place ≡ make_rules setting shape at made place
@@ -123,7 +123,7 @@ module _ (setting : Typing) (locals shape : Locals) (means : MeansSame locals sh
       ≡ receiver_class setting shape receiver
   receiver_same None = refl
   receiver_same (Some place) =
-      ap (λ z. and_then z (λ k. and_then (receiver_kind (place_name place).at k)
+      ap (λ z. then_checked z (λ k. then_checked (receiver_kind (place_name place).at k)
       (place_class (place_name place).at place))) (place_same place)
 
   slot_same : (at : ℕ) (receiver : Option Lvalue) (method : Ident) (arguments : List Ident) (class : ℕ)
@@ -146,12 +146,12 @@ module _ (setting : Typing) (locals shape : Locals) (means : MeansSame locals sh
   call_same : (at : ℕ) (receiver : Option Lvalue) (method : Ident) (arguments : List Ident)
       → call_rules setting locals at receiver method arguments ≡ call_rules setting shape at receiver method arguments
   call_same at receiver method arguments =
-      ap (λ z. and_then z (λ class. slot_rules setting locals at receiver method arguments class
+      ap (λ z. then_checked z (λ class. slot_rules setting locals at receiver method arguments class
       (slot_in setting.table class method.text))) (receiver_same receiver)
       ∙ by (receiver_class setting shape receiver)
     where
-      by : (r : Result ℕ Refusal) → and_then r (λ class. slot_rules setting locals at receiver method arguments class
-          (slot_in setting.table class method.text)) ≡ and_then r
+      by : (r : Result ℕ Refusal) → then_checked r (λ class. slot_rules setting locals at receiver method arguments class
+          (slot_in setting.table class method.text)) ≡ then_checked r
           (λ class. slot_rules setting shape at receiver method arguments class
           (slot_in setting.table class method.text))
       by (Ok class) = slot_same at receiver method arguments class (slot_in setting.table class method.text)

@@ -7,7 +7,7 @@ use Rattle.std.proofs.lemmas.List.Sorted.{list_any-IsPermutation}
 use Rattle.refine_program.specs.pisa_isa.declared.notes.Mark.{Mark}
 use Rattle.refine_program.specs.paired_code.Code.{Code, bodies, shift, routine_marks, link_marks}
 use Rattle.refine_program.specs.paired_code.Link.{routines_size, link_size}
-use Rattle.refine_program.specs.refine_form.Held.{Holds}
+use Rattle.refine_program.specs.refine_form.Held.{HoldsCode}
 use Rattle.statement_codegen.specs.Ranges.{is_marked, holds_cell, IsCovered}
 use Rattle.statement_codegen.proofs.Marks.{marked_front, marked_behind, marked_moved}
 use Rattle.program_codegen.specs.Notes.{unmarked_from}
@@ -93,7 +93,7 @@ bare_covered p h = none_unmarked p.marks 0 (length p.cells)
     (λ i l. let z : i ≡ 0 + i = omega arith in subst (λ x. is_marked p.marks x ≡ true) z (h i l))
 
 -- a fragment that holds another: those of that one, and at most its own cells
-pub bare_held : (a p : Code) → Holds a p → bare p + length a.cells ≤ bare a + length p.cells
+pub bare_held : (a p : Code) → HoldsCode a p → bare p + length a.cells ≤ bare a + length p.cells
 bare_held a p h =
     let b = length h.before in
     let n = length a.cells in

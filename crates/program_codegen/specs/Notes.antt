@@ -22,20 +22,20 @@ use Rattle.refine_program.specs.code_conventions.declared.memory.TheConstants.{F
 use Rattle.rpp_tree.specs.Places.{statement_place}
 use Rattle.statement_codegen.specs.Rows.{Row, block_rows}
 use Rattle.statement_codegen.specs.Ranges.{AreNested, is_marked}
-use Rattle.refine_program.specs.refine_form.Form.{Open, told, one, turned}
+use Rattle.refine_program.specs.refine_form.Form.{HasOpenFrame, run_result, one, turned_statement}
 use Rattle.refine_program.specs.refine_form.Frames.{Under}
 use Rattle.refine_program.specs.refine_form.Worlds.{Place, world_of, rates_of}
-use Rattle.refine_program.specs.Methods.{Entry, entries, scope_at}
-use Rattle.refine_program.specs.Laws.{place_of, HasRoutines}
+use Rattle.refine_program.specs.Methods.{RoutineEntry, entries, scope_at}
+use Rattle.refine_program.specs.Laws.{statement_address, HasRoutines}
 
 -- ---- marks of statements
 
 -- the statements of a method, in the order of the text
-abbrev pub method_rows : Entry → List Row
+abbrev pub method_rows : RoutineEntry → List Row
 method_rows entry = block_rows (scope_at entry) entry.method.body
 
 -- of these methods
-abbrev pub rows_of : List Entry → List Row
+abbrev pub rows_of : List RoutineEntry → List Row
 rows_of [] = []
 rows_of (entry ∷ entries) = method_rows entry ++ rows_of entries
 
@@ -56,10 +56,10 @@ WillGo im back first end m Q = (o : Outcome)
 -- goes on.
 pub record DoRow (place : Place) (row : Row) (first end : ℕ) : Type 0 where
   pub does : (fuel : ℕ) (back : Bool) (u : Under) (st : State) (m : Memory)
-      → Open (world_of place) row.scope u st m
+      → HasOpenFrame (world_of place) row.scope u st m
       → WillGo place.im back first end m
-      (Meets (Open (world_of place) row.scope u) (rates_of place.setting) (suc fuel) 0
-      (told (one place.setting fuel (turned back row.statement) st)))
+      (Meets (HasOpenFrame (world_of place) row.scope u) (rates_of place.setting) (suc fuel) 0
+      (run_result (one place.setting fuel (turned_statement back row.statement) st)))
 
 -- the mark of a statement: at its place, over cells that do with any limits what it says
 pub record IsStatementMark (at : Limits → Place) (row : Row) (k : Mark) : Type 0 where
@@ -75,7 +75,7 @@ pub record MarksDoTheirRows (program : Source) (image : Segments) (marks : List 
   pub ranges : List Mark
   pub same : IsPermutation marks ranges
   pub each : AllZip
-      (IsStatementMark (place_of program image starts routines.bodies routines.tops))
+      (IsStatementMark (statement_address program image starts routines.bodies routines.tops))
       (program_rows program) ranges
 
 -- of so many cells from this one on, how many lie in no mark's range

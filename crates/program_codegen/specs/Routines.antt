@@ -8,12 +8,12 @@ use Rattle.refine_program.specs.paired_code.Code.{Code}
 use Rattle.refine_program.specs.buddy_pisa.Promise.{AllocatorLaw}
 use Rattle.statement_codegen.specs.Ranges.{MarksOf}
 use Rattle.statement_codegen.specs.Pieces.{IsRowCode, cells_a_token}
-use Rattle.refine_program.specs.Methods.{Entry, entries, methods_before}
+use Rattle.refine_program.specs.Methods.{RoutineEntry, entries, methods_before}
 use Rattle.refine_program.specs.Laws.{IsRoutineCode}
 use Rattle.program_codegen.specs.Notes.{method_rows, unmarked_from}
 
 -- it has the law of the method, a mark for each of its statements, and so many cells
-pub record IsRoutine (program : Source) (entry : Entry) (p : Code) : Type 0 where
+pub record IsRoutine (program : Source) (entry : RoutineEntry) (p : Code) : Type 0 where
   pub law : IsRoutineCode program entry p.cells
   pub marks : MarksOf (IsRowCode program) (method_rows entry) p
   pub size : length p.cells ≤ cells_a_token * block_tokens entry.method.body + 8

@@ -17,7 +17,7 @@ use Rattle.command_plan.specs.rpp_probes.Tally.{Watch}
 use Rattle.program_commands.specs.ProgramPlans.{WritesImage, IsCheckPlan, IsCompilePlan, ChecksFile}
 use Rattle.program_commands.specs.ProgramPlans.{CompilesFile, ReportsStop, RunsImage, back_lines}
 use Rattle.program_commands.specs.RunPlans.{IsGoPlan, IsTurnPlan, IsProfilePlan, with_way_back}
-use Rattle.program_commands.specs.RunPlans.{GoesOn, TurnsFile, ProfilesFile}
+use Rattle.program_commands.specs.RunPlans.{RunGoesOn, TurnsFile, ProfilesFile}
 use Rattle.store_report.specs.roopl_semantics.Run.{Run, Done as OverWith, Fault, More}
 use Rattle.store_report.specs.roopl_semantics.Store.{State}
 use Rattle.store_report.specs.roopl_semantics.Source.{source, starting}
@@ -99,7 +99,7 @@ pub compiles_file_writes : (file image : List ℕ) (told : Option Texts) (p : Pl
 compiles_file_writes file image told p h = compile_writes h.text image p h.holds
 
 pub goes_on_writes : (count counted : ℕ) (file : List ℕ) (input : Option (List ℕ)) (sizes : Sizes)
-    (told : Option Texts) (p : Planned) → GoesOn count counted file input sizes told p → WritesOnly p None
+    (told : Option Texts) (p : Planned) → RunGoesOn count counted file input sizes told p → WritesOnly p None
 goes_on_writes count counted file input sizes told p h =
     go_writes count counted h.text h.holds.text sizes p h.holds.holds
 

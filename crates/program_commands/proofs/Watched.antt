@@ -11,7 +11,7 @@ use Rattle.roopl_judge.specs.rpp_words.declared.input.Limits.{Limits}
 use Rattle.roopl_judge.specs.rpp_tree.Tree.{Source}
 use Rattle.command_plan.specs.rpp_probes.declared.probe.StepAt.{StepAt}
 use Rattle.rpp_probes.proofs.Folds.{left_none}
-use Rattle.command_plan.specs.rpp_probes.Tally.{Watch, left_after, lines_after, lines_shown, line_of}
+use Rattle.command_plan.specs.rpp_probes.Tally.{Watch, left_after, lines_after, lines_shown, watch_line}
 use Rattle.image_inverter.specs.pisa_isa.declared.machine.Stop.{Stop}
 use Rattle.image_inverter.specs.pisa_isa.Image.{Segments, IsImage}
 use Rattle.image_inverter.specs.pisa_isa.Loaded.{loaded}
@@ -105,14 +105,14 @@ module _ (program : Source) (limits : Limits) (input : List FieldWord) (bound : 
       → after ≡ left_after (counted_steps start.image.code bound start.state) before
       → ended ≡ lines_after (counted_steps start.image.code bound start.state) before
       → (said p : Planned) → ReportsStop why program limits input spent bound said
-      → p ≡ record said { text = (said.text ++ lines_shown ended) ++ lines_shown (map line_of after) }
+      → p ≡ record said { text = (said.text ++ lines_shown ended) ++ lines_shown (map watch_line after) }
       → (count counted : ℕ) → counted ≡ count + spent
       → ProfilesImage before after count counted program limits input bound p
   profiles_image why has start loads same before after ended told lines said p reports is count counted once = record {
     said = said;
     runs = runs_image program limits input bound end spent why has said reports count counted once;
     told = told ∙ ap (λ steps. left_after steps before) (same_steps start loads same);
-    reported = is ∙ ap (λ l. record said { text = (said.text ++ lines_shown l) ++ lines_shown (map line_of after) })
+    reported = is ∙ ap (λ l. record said { text = (said.text ++ lines_shown l) ++ lines_shown (map watch_line after) })
         (lines ∙ ap (λ steps. lines_after steps before) (same_steps start loads same));
   }
 

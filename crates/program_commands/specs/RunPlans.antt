@@ -11,7 +11,7 @@ use Rattle.command_plan.specs.declared.plan.Sizes.{Sizes}
 use Rattle.command_plan.specs.rpp_ports.Ports.{Texts}
 use Rattle.command_plan.specs.rpp_probes.declared.probe.StepAt.{StepAt}
 use Rattle.command_plan.specs.rpp_probes.Tally.{Watch, left_after, lines_after, lines_shown}
-use Rattle.command_plan.specs.rpp_probes.Tally.{line_of}
+use Rattle.command_plan.specs.rpp_probes.Tally.{watch_line}
 use Rattle.image_inverter.specs.pisa_isa.declared.cell.Cell.{Cell}
 use Rattle.image_inverter.specs.pisa_isa.declared.machine.Stop.{Stop}
 use Rattle.image_inverter.specs.pisa_isa.declared.machine.Stop.TheVariants.{Finished}
@@ -93,7 +93,7 @@ pub record ProfilesImage (before after : List Watch) (count counted : ℕ) (prog
   pub told : after ≡ left_after (run_steps runs.image limits input steps) before
   pub reported : p ≡ record said {
     text = (said.text ++ lines_shown (lines_after (run_steps runs.image limits input steps) before))
-        ++ lines_shown (map line_of after);
+        ++ lines_shown (map watch_line after);
   }
 
 -- the plan of `profile` of a text
@@ -105,9 +105,9 @@ IsProfilePlan before after count counted text given sizes p =
     program limits input sizes.bound p)
 
 -- the plan of `go` of this file, on an input if there is one
-abbrev pub GoesOn : (count counted : ℕ) → (file : List ℕ) → (input : Option (List ℕ))
+abbrev pub RunGoesOn : (count counted : ℕ) → (file : List ℕ) → (input : Option (List ℕ))
     → (sizes : Sizes) → Option Texts → Planned → Type 0
-GoesOn count counted file input sizes told p =
+RunGoesOn count counted file input sizes told p =
     WithText told file MOST_BYTES
     (λ text. WithInput told input (λ given. IsGoPlan count counted text given sizes p))
 

@@ -3,7 +3,7 @@ ghost use Rattle.std.specs.Prelude.{◌≤◌, [], ◌∷◌, length, IfOk, IfSo
 ghost use Rattle.roopl_judge.specs.rpp_tree.declared.limits.TheConstants.{MOST_BYTES};
 ghost use Rattle.command_plan.specs.Plans.{planned, GivesPlan};
 ghost use Rattle.program_commands.specs.ProgramPlans.{IsCheckPlan, ChecksFile};
-ghost use Rattle.command_plan.specs.Files.{OnlyReads, source};
+ghost use Rattle.command_plan.specs.Files.{OnlyReads, source_file};
 
 use command_plan::{NoPlan, Plan, Verdict, read_file, refuse_source};
 use roopl_judge::{SourceError, judge};
@@ -16,7 +16,7 @@ use std::alloc::Global;
 pub fn check<S: Shelf>(alloc: Global, shelf: &mut S, file: &str) -> Result<Plan, NoPlan>
     ensures plan { GivesPlan (S.texts shelf.old) (ChecksFile file.now) result }
     ensures reads { OnlyReads (S.texts shelf.old) (S.texts shelf.new) (S.faults shelf.old)
-        (S.faults shelf.new) (source file.now ∷ []) result }
+        (S.faults shelf.new) (source_file file.now ∷ []) result }
 {
     let text = read_file(alloc, shelf, file, MOST_BYTES as u64)?;
     Ok(check_text(alloc, &text)?)

@@ -4,7 +4,7 @@ ghost use Rattle.roopl_judge.specs.rpp_tree.Views.{source_of};
 ghost use Rattle.roopl_judge.specs.rpp_tree.declared.limits.TheConstants.{MOST_BYTES};
 ghost use Rattle.command_plan.specs.Plans.{planned, GivesPlan};
 ghost use Rattle.program_commands.specs.ProgramPlans.{IsCompilePlan, WritesImage, CompilesFile};
-ghost use Rattle.command_plan.specs.Files.{OnlyReads, source};
+ghost use Rattle.command_plan.specs.Files.{OnlyReads, source_file};
 
 use class_table::Checked;
 use command_plan::{NoPlan, Plan, read_file, refuse_source, write_as};
@@ -24,7 +24,7 @@ pub fn compile_file<S: Shelf>(
 ) -> Result<Plan, NoPlan>
     ensures plan { GivesPlan (S.texts shelf.old) (CompilesFile file.now image.now) result }
     ensures reads { OnlyReads (S.texts shelf.old) (S.texts shelf.new) (S.faults shelf.old)
-        (S.faults shelf.new) (source file.now ∷ []) result }
+        (S.faults shelf.new) (source_file file.now ∷ []) result }
 {
     let text = read_file(alloc, shelf, file, MOST_BYTES as u64)?;
     Ok(compile_text(alloc, &text, image)?)

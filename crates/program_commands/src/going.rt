@@ -6,9 +6,9 @@ ghost use Rattle.command_plan.specs.pisa_loader.declared.input.TheConstants.{MOS
 ghost use Rattle.command_plan.specs.Plans.{planned, GivesPlan};
 ghost use Rattle.program_runs.specs.Reports.{ReportsStore};
 ghost use Rattle.program_commands.specs.ProgramPlans.{RunsImage, ReportsStop};
-ghost use Rattle.program_commands.specs.RunPlans.{IsGoPlan, GoesOn};
+ghost use Rattle.program_commands.specs.RunPlans.{IsGoPlan, RunGoesOn};
 ghost use Rattle.program_commands.specs.GoRun.{IsLoaded, HasRun};
-ghost use Rattle.command_plan.specs.Files.{OnlyReads, UnreadCause, source, input_files};
+ghost use Rattle.command_plan.specs.Files.{OnlyReads, UnreadCause, source_file, input_files};
 
 use command_plan::{
     NoPlan, Plan, Sizes, Verdict, read_given, report_bound, report_fault, with_steps,
@@ -34,13 +34,13 @@ pub fn go<S: Shelf, L: Ledger>(
     steps: &mut Steps<L>,
 ) -> Result<Plan, NoPlan>
     requires { sizes.bound < 2 ^ 63 }
-    ensures plan { GivesPlan (S.texts shelf.old) (GoesOn steps.old steps.new file.now
+    ensures plan { GivesPlan (S.texts shelf.old) (RunGoesOn steps.old steps.new file.now
         (option_map string_bytes input.now) sizes) result }
     ensures within { steps.new ≤ steps.old + sizes.bound }
     ensures unread { IfErr result (UnreadCause (steps.new ≡ steps.old)) }
     ensures reads { OnlyReads (S.texts shelf.old) (S.texts shelf.new) (S.faults shelf.old)
         (S.faults shelf.new)
-        (source file.now ∷ input_files (option_map string_bytes input.now)) result }
+        (source_file file.now ∷ input_files (option_map string_bytes input.now)) result }
 {
     let given = read_given(alloc, shelf, file, input)?;
     Ok(go_over(alloc, &given.text, &given.input, sizes, steps)?)

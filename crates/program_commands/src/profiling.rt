@@ -2,9 +2,9 @@
 ghost use Rattle.std.specs.Prelude.{◌≡◌, ◌⊎◌, ◌≤◌, ◌<◌, ◌+◌, ◌^◌, ◌++◌, [], ◌∷◌, length, map, IfOk, IfErr, OnOk, string_bytes};
 ghost use Rattle.roopl_judge.specs.rpp_tree.Views.{source_of};
 ghost use Rattle.roopl_judge.specs.rpp_tree.declared.limits.TheConstants.{MOST_BYTES};
-ghost use Rattle.command_plan.specs.rpp_probes.Tally.{lines_shown, line_of};
+ghost use Rattle.command_plan.specs.rpp_probes.Tally.{lines_shown, watch_line};
 ghost use Rattle.command_plan.specs.Plans.{planned, GivesPlan};
-ghost use Rattle.command_plan.specs.Files.{OnlyReads, UnreadCause, source};
+ghost use Rattle.command_plan.specs.Files.{OnlyReads, UnreadCause, source_file};
 ghost use Rattle.program_commands.specs.RunPlans.{IsProfilePlan, ProfilesFile, ProfilesImage};
 ghost use Rattle.program_commands.specs.ToldShort.{ProfilesShort, IsProfileShort, ProfilesFileShort};
 
@@ -37,7 +37,7 @@ pub fn profile<S: Shelf, P: Probes, L: Ledger>(
     ensures within { steps.new ≤ steps.old + sizes.bound }
     ensures unread { IfErr result (UnreadCause (steps.new ≡ steps.old)) }
     ensures reads { OnlyReads (S.texts shelf.old) (S.texts shelf.new) (S.faults shelf.old)
-        (S.faults shelf.new) (source file.now ∷ []) result }
+        (S.faults shelf.new) (source_file file.now ∷ []) result }
     ensures untold { IfErr result (UnreadCause (P.watches probes.new ≡ P.watches probes.old)) }
     ensures short { IfErr result (λ _. ProfilesFileShort (P.watches probes.old)
         (P.watches probes.new) file.now sizes
@@ -97,7 +97,7 @@ fn profile_program<P: Probes, L: Ledger>(
 fn with_probes<P: Probes>(said: Plan, ended: &[String], probes: &P) -> Result<Plan, NoMemory>
     ensures { IfOk result (λ plan. planned plan ≡ record (planned said) {
       text = (string_bytes said.text ++ lines_shown (map string_bytes ended.now))
-          ++ lines_shown (map line_of (P.watches probes.now));
+          ++ lines_shown (map watch_line (P.watches probes.now));
     }) }
 {
     let mut plan = said;

@@ -8,7 +8,7 @@ ghost use Rattle.image_inverter.specs.pisa_isa.declared.machine.Stop.TheVariants
 ghost use Rattle.image_inverter.specs.pisa_isa.Loaded.{loaded};
 ghost use Rattle.command_plan.specs.pisa_loader.declared.input.TheConstants.{MOST_INPUT};
 ghost use Rattle.command_plan.specs.Plans.{planned, GivesPlan};
-ghost use Rattle.command_plan.specs.Files.{OnlyReads, UnreadCause, source, input_files};
+ghost use Rattle.command_plan.specs.Files.{OnlyReads, UnreadCause, source_file, input_files};
 ghost use Rattle.program_commands.specs.ProgramPlans.{back_lines};
 ghost use Rattle.program_commands.specs.RunPlans.{IsTurnPlan, TurnsFile, TurnsImage, back_steps, steps_back};
 ghost use Rattle.program_commands.specs.ToldShort.{IsToldSoFar, TurnsShort, IsTurnShort, TurnsFileShort};
@@ -50,7 +50,7 @@ pub fn turn<S: Shelf, P: Probes, L: Ledger>(
     ensures unread { IfErr result (UnreadCause (steps.new ≡ steps.old)) }
     ensures reads { OnlyReads (S.texts shelf.old) (S.texts shelf.new) (S.faults shelf.old)
         (S.faults shelf.new)
-        (source file.now ∷ input_files (option_map string_bytes input.now)) result }
+        (source_file file.now ∷ input_files (option_map string_bytes input.now)) result }
     ensures untold { IfErr result (UnreadCause (P.watches probes.new ≡ P.watches probes.old)) }
     ensures short { IfErr result (λ _. TurnsFileShort (P.watches probes.old) (P.watches probes.new)
         file.now (option_map string_bytes input.now) sizes

@@ -13,10 +13,10 @@ use Rattle.method_calls.specs.roopl_semantics.Store.{Value, Object, Store, Bindi
 use Rattle.method_calls.specs.roopl_semantics.Value.{Part, read, written}
 use Rattle.method_calls.specs.roopl_semantics.Layout.{overlaid}
 use Rattle.method_calls.specs.roopl_semantics.Execution.{Setting}
-use Rattle.method_calls.specs.meaning_sound.Sound.{name_of, local_name, local_type, value_of, named_fits, head_named}
+use Rattle.method_calls.specs.meaning_sound.Sound.{binding_name, local_name, local_type, bound_value, named_fits, head_named}
 use Rattle.method_calls.specs.meaning_sound.Sound.{cell_kinds}
 use Rattle.method_calls.specs.meaning_sound.Sound.{cell_kind, Typed}
-use Rattle.method_calls.specs.refine_frame.Open.{Setup, base_of}
+use Rattle.method_calls.specs.refine_frame.Open.{Setup, setup_base}
 use Rattle.method_calls.proofs.meaning_sound_laws.Lists.{all_inside}
 use Rattle.method_calls.proofs.meaning_sound_laws.Stores.{live_named}
 use Rattle.method_calls.proofs.meaning_sound_laws.Cells.{part_of}
@@ -26,7 +26,7 @@ use Rattle.method_calls.proofs.refine_frame_laws.Memory.{write_part, length_heap
 use Rattle.method_calls.proofs.refine_frame_laws.Memory.{before_heap}
 use Rattle.method_calls.proofs.refine_frame_laws.Addresses.{part_place}
 use Rattle.method_calls.specs.refine_form.Form.{Scope, Moved}
-use Rattle.method_calls.specs.refine_form.Frames.{Caller, Under, base, stack_base, address_of, value_word, values_of}
+use Rattle.method_calls.specs.refine_form.Frames.{CallerFrame, Under, base, stack_base, address_of, value_word, values_of}
 use Rattle.method_calls.specs.refine_form.Frames.{value_words}
 use Rattle.method_calls.specs.refine_form.Frames.{frame_words, callers_words, above_words, stack_words, memory}
 use Rattle.method_calls.specs.refine_form.Frames.{before_stack}
@@ -120,11 +120,11 @@ module _ (setting : Setting) (statics : List ℕ) where
     pub same_at : h.keeps.placed.at ≡ h.frame.at
     same_at = let e : Some h.keeps.placed.at ≡ Some h.frame.at = sym h.keeps.placed.placed ∙ h.frame.placed in cc
 
-    pub frame_names : map name_of st.frame ≡ map local_name (shape_of setting.program s)
+    pub frame_names : map binding_name st.frame ≡ map local_name (shape_of setting.program s)
     frame_names = h.frame.names_are ∙ sym (shape_names setting.program s.vars)
 
     pub as_many_vars : length st.frame ≡ length s.vars
-    as_many_vars = sym (length-map st.frame name_of) ∙ ap (length {A = List ℕ}) h.frame.names_are
+    as_many_vars = sym (length-map st.frame binding_name) ∙ ap (length {A = List ℕ}) h.frame.names_are
         ∙ length-map s.vars (λ (v : Var). v.name.text)
 
     abbrev pub typed : Typed setting (extra u moved) (shape_of setting.program s) s.class st

@@ -11,7 +11,7 @@ use Rattle.method_calls.specs.class_rules.declared.kind.Kind.{Kind}
 use Rattle.method_calls.specs.roopl_semantics.Store.{Value, Store, State, main_name}
 use Rattle.method_calls.specs.roopl_semantics.Execution.{Setting, bound}
 use Rattle.method_calls.specs.roopl_semantics.Laws.{holders_among}
-use Rattle.method_calls.specs.meaning_sound.Sound.{named_fits, head_named, is_live, AllFit, local_type, value_of, held, cell_kind}
+use Rattle.method_calls.specs.meaning_sound.Sound.{named_fits, head_named, is_live, AllFit, local_type, bound_value, held, cell_kind}
 use Rattle.method_calls.specs.meaning_sound.Sound.{part_kind}
 use Rattle.method_calls.proofs.meaning_sound_laws.Objects.{all_live}
 use Rattle.method_calls.proofs.meaning_sound_laws.Invocations.{types_of_params, bound_values}
@@ -50,7 +50,7 @@ module _ (setting : Setting) (statics : List ℕ) where
   moved_types store s u (x ∷ names) (t ∷ ks) [] k h e = absurd (omega (arith, e))
   moved_types store s u (x ∷ names) (t ∷ ks) (v ∷ vals) k h e =
       let same : h.0.kind ≡ t = (let q : Some h.0.kind ≡ Some t = sym h.0.of_cell ∙ k.0 in cc) in (
-        subst (λ z. Rattle.method_calls.specs.meaning_sound.Sound.fits setting.program store v z ≡ true) same h.0.fit,
+        subst (λ z. Rattle.method_calls.specs.meaning_sound.Sound.is_of_kind setting.program store v z ≡ true) same h.0.fit,
         moved_types store s u names ks vals k.1 h.1 (let q : suc (length vals) ≡ suc (length names) = e in
             omega (arith, q)),
       )
@@ -81,12 +81,12 @@ module _ (setting : Setting) (statics : List ℕ) where
       (inside : s'.class < length setting.program.classes)
       (above : named_fits setting.program (kind.Class s'.class) (head_named st.store u.self) ≡ true) where
     values : List Value
-    values = map value_of (bound s'.vars vals)
+    values = map bound_value (bound s'.vars vals)
 
     fit : AllFit setting.program st.store (map local_type (shape_of setting.program s')) vals
     fit = moved_types st.store s u args (map local_type (shape_of setting.program s')) vals kinds k.moved_fit many
 
-    bound_are : map value_of (bound s'.vars vals) ≡ vals
+    bound_are : map bound_value (bound s'.vars vals) ≡ vals
     bound_are = bound_values setting.program st.store s'.vars vals
         (subst (λ ks. AllFit setting.program st.store ks vals) (types_of_params setting.program s'.vars) fit)
 
@@ -98,12 +98,12 @@ module _ (setting : Setting) (statics : List ℕ) where
         omega (arith, a, b)
 
     live : (m : ℕ) → 0 < extra (deeper s u st) [] m → is_live st.store m ≡ true
-    live m p = by (nat_lt 0 (holders_among m (map value_of st.frame))) refl
+    live m p = by (nat_lt 0 (holders_among m (map bound_value st.frame))) refl
       where
-        by : (b : Bool) → nat_lt 0 (holders_among m (map value_of st.frame)) ≡ b → is_live st.store m ≡ true
+        by : (b : Bool) → nat_lt 0 (holders_among m (map bound_value st.frame)) ≡ b → is_live st.store m ≡ true
         by true e = all_live setting.program st.store (map local_type (shape_of setting.program s))
-            (map value_of st.frame) m k.variables (ltb-true 0 (holders_among m (map value_of st.frame)) e)
-        by false e = k.lives m (let q = ltb-false 0 (holders_among m (map value_of st.frame)) e in omega (arith, q, p))
+            (map bound_value st.frame) m k.variables (ltb-true 0 (holders_among m (map bound_value st.frame)) e)
+        by false e = k.lives m (let q = ltb-false 0 (holders_among m (map bound_value st.frame)) e in omega (arith, q, p))
 
     pub counts_enter : CountsAre u (pairs args vals) st → CountsAre (deeper s u st) [] (callee_state s'.vars vals st)
     counts_enter counts m c q = let a = counts m c q in let b = total m in omega (arith, a, b)
@@ -133,29 +133,29 @@ module _ (setting : Setting) (statics : List ℕ) where
   module _ (s s' : Scope) (u : Under) (st end : State) (args : List Ident) (moved : List Moved)
       (before : Kept setting statics s u moved st) (k : Kept setting statics s' (deeper s u st) [] end)
       (kinds : HaveKinds end.store s u args (map local_type (shape_of setting.program s')))
-      (many : length (map value_of end.frame) ≡ length args) where
+      (many : length (map bound_value end.frame) ≡ length args) where
     abbrev pub after_call : State
     after_call = record st { store = end.store; log = end.log }
 
-    total' : (m : ℕ) → held m after_call + extra u (pairs args (map value_of end.frame)) m
+    total' : (m : ℕ) → held m after_call + extra u (pairs args (map bound_value end.frame)) m
         ≡ held m end + extra (deeper s u st) [] m
     total' m =
-        let b = ap (holders_among m) (pairs_values args (map value_of end.frame) many) in
+        let b = ap (holders_among m) (pairs_values args (map bound_value end.frame) many) in
         omega (arith, b)
 
-    live' : (m : ℕ) → 0 < extra u (pairs args (map value_of end.frame)) m → is_live end.store m ≡ true
-    live' m p = by (nat_lt 0 (holders_among m (map value_of end.frame))) refl
+    live' : (m : ℕ) → 0 < extra u (pairs args (map bound_value end.frame)) m → is_live end.store m ≡ true
+    live' m p = by (nat_lt 0 (holders_among m (map bound_value end.frame))) refl
       where
-        by : (b : Bool) → nat_lt 0 (holders_among m (map value_of end.frame)) ≡ b → is_live end.store m ≡ true
+        by : (b : Bool) → nat_lt 0 (holders_among m (map bound_value end.frame)) ≡ b → is_live end.store m ≡ true
         by true e = all_live setting.program end.store (map local_type (shape_of setting.program s'))
-            (map value_of end.frame) m k.variables (ltb-true 0 (holders_among m (map value_of end.frame)) e)
-        by false e = k.lives m (let q = ltb-false 0 (holders_among m (map value_of end.frame)) e in
-            let b = ap (holders_among m) (pairs_values args (map value_of end.frame) many) in omega (arith, q, p, b))
+            (map bound_value end.frame) m k.variables (ltb-true 0 (holders_among m (map bound_value end.frame)) e)
+        by false e = k.lives m (let q = ltb-false 0 (holders_among m (map bound_value end.frame)) e in
+            let b = ap (holders_among m) (pairs_values args (map bound_value end.frame) many) in omega (arith, q, p, b))
 
-    pub counts_leave : CountsAre (deeper s u st) [] end → CountsAre u (pairs args (map value_of end.frame)) after_call
+    pub counts_leave : CountsAre (deeper s u st) [] end → CountsAre u (pairs args (map bound_value end.frame)) after_call
     counts_leave counts m c q = let a = counts m c q in let b = total' m in omega (arith, a, b)
 
-    pub kept_leaves : Kept setting statics s u (pairs args (map value_of end.frame)) after_call
+    pub kept_leaves : Kept setting statics s u (pairs args (map bound_value end.frame)) after_call
     kept_leaves = record {
       class_inside = before.class_inside;
       variables = k.callers_fit.0;
@@ -174,6 +174,6 @@ module _ (setting : Setting) (statics : List ℕ) where
       grounded = k.grounded;
       callers_fit = k.callers_fit.3;
       callers_held = k.callers_held.1;
-      moved_fit = types_moved end.store s u args (map local_type (shape_of setting.program s')) (map value_of end.frame)
+      moved_fit = types_moved end.store s u args (map local_type (shape_of setting.program s')) (map bound_value end.frame)
           kinds k.variables;
     }

@@ -22,7 +22,7 @@ use Rattle.method_calls.specs.meaning_sound.Sound.{named_fits, head_named, local
 use Rattle.method_calls.proofs.meaning_sound_laws.Classes.{KnowsClasses}
 use Rattle.method_calls.proofs.meaning_sound_laws.Invocations.{types_of_params}
 use Rattle.method_calls.proofs.meaning_sound_laws.Values.{variable_fits}
-use Rattle.method_calls.specs.refine_form.Form.{Scope, Moved, Routines, pairs}
+use Rattle.method_calls.specs.refine_form.Form.{Scope, Moved, MethodRoutines, pairs}
 use Rattle.method_calls.specs.Facts.{IsSteady, ImageFacts, MoveFacts, OwnFacts, PutFacts, FrameFacts}
 use Rattle.method_calls.specs.refine_form.Frames.{Under, cell_in, cell_at, OpenFrame}
 use Rattle.refine_calls.proofs.FramesFit.{means, class_stays, enters, leaves}
@@ -38,7 +38,7 @@ use Rattle.method_calls.proofs.meaning_sound_laws.Accepted.{knows_classes}
 use Rattle.method_calls.proofs.meaning_sound_laws.Plainness.{program_plain}
 use Rattle.method_calls.specs.refine_form.Worlds.{Place, world_of}
 use Rattle.method_calls.specs.Facts.{HasPlace}
-use Rattle.method_calls.specs.Names.{AllTyped, HasMethod, deeper, known_of, slot_of}
+use Rattle.method_calls.specs.Names.{AllTyped, HasMethod, deeper, known_calls_of, method_slot_of}
 use Rattle.refine_calls.specs.Laws.{Route, IsLinked}
 use Rattle.refine_calls.proofs.Bridge.{reads_of}
 
@@ -55,7 +55,7 @@ module _ (place : Place) (routine : ℕ → Ident → ℕ) (linked : IsLinked pl
   abbrev pub statics : List ℕ
   statics = place.statics
 
-  abbrev pub routines : Routines
+  abbrev pub routines : MethodRoutines
   routines = place.routines
 
   pub classes : KnowsClasses place.setting.program
@@ -224,7 +224,7 @@ module _ (place : Place) (routine : ℕ → Ident → ℕ) (linked : IsLinked pl
     thousand = refl;
   }
 
-  move_facts : MoveFacts (world_of place) (known_of place routine)
+  move_facts : MoveFacts (world_of place) (known_calls_of place routine)
   move_facts = record {
     moves_in = λ s u moved st cells name h v l room. moves_in setting statics classes s u moved st cells name h v l
         (let d = h.frame.depth_is in let q = not_full (1 + length u.callers) setting.limits.deep room in
@@ -236,7 +236,7 @@ module _ (place : Place) (routine : ℕ → Ident → ℕ) (linked : IsLinked pl
   place_in_table : (s : Scope) (u : Under) (st end : State) (cells : List ℕ) (name : Ident) (args : List Ident)
       → Stands setting statics (scope_of u name) (deeper s u st) [] end cells
       → (m : HasMethod program s s.class name args)
-      → HasPlace cells u.object (slot_of program s.class name) (routines.top (routine u.class name) + 1)
+      → HasPlace cells u.object (method_slot_of program s.class name) (routines.top (routine u.class name) + 1)
   place_in_table s u st end cells name args o m =
       let r = open_route s u st end cells name args o m in
       let above = open_above s u st end cells name o in
@@ -248,7 +248,7 @@ module _ (place : Place) (routine : ℕ → Ident → ℕ) (linked : IsLinked pl
       subst (λ z. HasPlace cells u.object z (routines.top (routine u.class name) + 1))
       (sym (ap (λ o. unwrap_or o 0) m.is_slot)) (subst (λ p. HasPlace cells u.object m.slot p) r.place_is t)
 
-  own_facts : OwnFacts (world_of place) (known_of place routine)
+  own_facts : OwnFacts (world_of place) (known_calls_of place routine)
   own_facts = record {
     slot_small = λ s name args m. subst (λ z. z < 2 ^ 20) (sym (ap (λ o. unwrap_or o 0) m.is_slot)) m.small;
     dispatches = λ s u moved st cells name args h m.
@@ -266,7 +266,7 @@ module _ (place : Place) (routine : ℕ → Ident → ℕ) (linked : IsLinked pl
     leaves = λ s u st end cells name args moved before h o m. leaves_out s u st end cells name args moved before h o m;
   }
 
-  put_facts : PutFacts (world_of place) (known_of place routine)
+  put_facts : PutFacts (world_of place) (known_calls_of place routine)
   put_facts = record {
     saves = λ s u st cells h f. saves setting statics linked.routed.few s u st cells h f;
     put_opens = λ s u st cells link place h f lw pw. puts setting statics linked.routed.few s u st cells link place h f
@@ -278,7 +278,7 @@ module _ (place : Place) (routine : ℕ → Ident → ℕ) (linked : IsLinked pl
   }
 
   steady : (s : Scope) (u : Under) (moved : List Moved) (st : State) (cells : List ℕ)
-      → Stands setting statics s u moved st cells → IsSteady (world_of place) (known_of place routine) s u st
+      → Stands setting statics s u moved st cells → IsSteady (world_of place) (known_calls_of place routine) s u st
   steady s u moved st cells h = record {
     object_small = object_small setting statics linked.routed.few s u moved st cells h;
     frame_small = frame_small setting statics linked.routed.few s u moved st cells h;
@@ -288,7 +288,7 @@ module _ (place : Place) (routine : ℕ → Ident → ℕ) (linked : IsLinked pl
     means = λ name v. cell_is setting statics classes s u moved st cells (reads_of h) name v;
   }
 
-  pub frame_facts : FrameFacts (world_of place) (known_of place routine)
+  pub frame_facts : FrameFacts (world_of place) (known_calls_of place routine)
   frame_facts = record {
     image = image_facts;
     near = λ s name v. v.near;

@@ -15,7 +15,7 @@ use Rattle.method_calls.proofs.meaning_sound_laws.Regions.{region_inside}
 use Rattle.method_calls.proofs.refine_frame_laws.Memory.{base_above}
 use Rattle.method_calls.proofs.refine_frame_laws.Tells.{cells_small}
 use Rattle.method_calls.specs.refine_form.Form.{Scope, Moved}
-use Rattle.method_calls.specs.Facts.{HasEnd, HasWords}
+use Rattle.method_calls.specs.Facts.{HasEnd, HasFrameWords}
 use Rattle.method_calls.specs.refine_form.Frames.{Under, base, stack_base, address_of, OpenFrame, spare_words}
 use Rattle.refine_calls.proofs.FramesFit.{has_end, link_word, place_word, put_opens}
 use Rattle.method_calls.specs.refine_form.Stands.{setup, Kept, Stands}
@@ -108,7 +108,7 @@ module _ (setting : Setting) (statics : List ℕ) (few : length statics ≤ MOST
       h.frame.depth_is in let i = h.frame.in_depth in omega (arith, l, d, i)
 
   pub saves : (s : Scope) (u : Under) (st : State) (cells : List ℕ) → Stands setting statics s u [] st cells → IsFresh u
-      → HasWords cells (frame_address setting statics u) 0 0
+      → HasFrameWords cells (frame_address setting statics u) 0 0
   saves s u st cells h f = record {
     words_in = words_inside s u st cells h;
     link_word = link_word setting statics s u [] st cells h.frame 0 (slice_index u.put_by OBJECT_WORD) 0
@@ -136,7 +136,7 @@ module _ (setting : Setting) (statics : List ℕ) (few : length statics ≤ MOST
 
   pub put_words : (s : Scope) (u : Under) (st : State) (cells : List ℕ) (link place : ℕ)
       → Stands setting statics s (put u link place) [] st cells
-      → HasWords cells (frame_address setting statics u) link place
+      → HasFrameWords cells (frame_address setting statics u) link place
   put_words s u st cells link place h = record {
     words_in = words_inside s (put u link place) st cells h;
     link_word = link_word setting statics s (put u link place) [] st cells h.frame link

@@ -19,7 +19,7 @@ use Rattle.method_calls.specs.class_rules.Classes.{class_fields}
 use Rattle.method_calls.specs.roopl_semantics.Execution.{Setting, bound}
 use Rattle.method_calls.specs.refine_form.Form.{Scope}
 use Rattle.method_calls.specs.Names.{caller_of, deeper}
-use Rattle.method_calls.specs.refine_form.Frames.{Caller, Under, values_of, value_words, filled_to, frame_words}
+use Rattle.method_calls.specs.refine_form.Frames.{CallerFrame, Under, values_of, value_words, filled_to, frame_words}
 use Rattle.method_calls.specs.refine_form.Frames.{callers_words}
 use Rattle.method_calls.specs.refine_form.Frames.{above_words, stack_words, memory, StandsAt, CallersStand, cell_at}
 use Rattle.method_calls.specs.refine_form.Frames.{cell_in}
@@ -70,7 +70,7 @@ module _ (setting : Setting) (statics : List ℕ) where
   length_map f (x ∷ l) = ap suc (length_map f l)
 
   pub length_callers : (at : Placing) (store : Rattle.method_calls.specs.roopl_semantics.Store.Store)
-      (callers : List Caller)
+      (callers : List CallerFrame)
       → CallersStand setting statics at store callers → length (callers_words setting statics at callers)
       ≡ FRAME_WORDS * length callers
   length_callers at store [] h = refl

@@ -9,7 +9,7 @@ use Rattle.method_calls.specs.roopl_semantics.Store.{Value, Word, Nil, Name, Sto
 use Rattle.method_calls.specs.roopl_semantics.Value.{Cell, Slot, Part, read, written}
 use Rattle.method_calls.specs.roopl_semantics.Execution.{Setting}
 use Rattle.method_calls.specs.roopl_semantics.Laws.{one_if_name}
-use Rattle.method_calls.specs.meaning_sound.Sound.{named_fits, head_named, is_live, fits, held, local_type, value_of, cell_kind}
+use Rattle.method_calls.specs.meaning_sound.Sound.{named_fits, head_named, is_live, is_of_kind, held, local_type, bound_value, cell_kind}
 use Rattle.method_calls.specs.meaning_sound.Sound.{part_kind, Typed, count_named}
 use Rattle.method_calls.specs.refine_frame.Open.{IsGrounded}
 use Rattle.method_calls.proofs.meaning_sound_laws.Lists.{fits_kept, all_kept}
@@ -17,7 +17,7 @@ use Rattle.method_calls.proofs.meaning_sound_laws.Cells.{heads_written, counts_w
 use Rattle.method_calls.proofs.meaning_sound_laws.Moves.{cleared_fits}
 use Rattle.method_calls.proofs.meaning_sound_laws.Objects.{all_live}
 use Rattle.method_calls.specs.refine_form.Form.{Scope, Moved}
-use Rattle.method_calls.specs.refine_form.Frames.{Caller, Under, cell_in}
+use Rattle.method_calls.specs.refine_form.Frames.{CallerFrame, Under, cell_in}
 use Rattle.method_calls.specs.refine_form.Stands.{shape_of, extra, setup, CallersFit, AllMoved, Kept}
 
 cleared_none : (m : ℕ) (v : Value) → one_if_name m (cleared v) ≡ 0
@@ -39,10 +39,10 @@ module _ (setting : Setting) (statics : List ℕ) where
   -- ---- if heads stay, so do types
 
   pub callers_stay : (store other : Store) → ((m : ℕ) → head_named other m ≡ head_named store m)
-      → (callers : List Caller) → CallersFit setting statics store callers → CallersFit setting statics other callers
+      → (callers : List CallerFrame) → CallersFit setting statics store callers → CallersFit setting statics other callers
   callers_stay store other heads [] h = tt
   callers_stay store other heads (c ∷ callers) h = (
-    all_kept setting.program store other (map local_type (shape_of setting.program c.scope)) (map value_of c.frame)
+    all_kept setting.program store other (map local_type (shape_of setting.program c.scope)) (map bound_value c.frame)
         (λ m x y. heads m) h.0,
     ap (named_fits setting.program (kind.Class c.scope.class)) (heads c.self) ∙ h.1,
     heads c.self ∙ h.2,
@@ -89,7 +89,7 @@ module _ (setting : Setting) (statics : List ℕ) where
         by (Part n i) = refl
 
     -- a write of any value of the type that leaves the main object unheld, with other values above
-    pub kept_unheld : (v : Value) (moved' : List Moved) → fits setting.program st.store v type ≡ true
+    pub kept_unheld : (v : Value) (moved' : List Moved) → is_of_kind setting.program st.store v type ≡ true
         → held main_name (written st cell v) ≡ 0
         → ((m : ℕ) → 0 < extra u moved' m → is_live st.store m ≡ true)
         → extra u moved' main_name ≡ 1
@@ -117,7 +117,7 @@ module _ (setting : Setting) (statics : List ℕ) where
         }
 
     -- a write that only moves what is held
-    pub kept_write : (v : Value) (moved' : List Moved) → fits setting.program st.store v type ≡ true
+    pub kept_write : (v : Value) (moved' : List Moved) → is_of_kind setting.program st.store v type ≡ true
         → ((m : ℕ) → held m (written st cell v) + extra u moved' m ≡ held m st + extra u moved m)
         → ((m : ℕ) → 0 < extra u moved' m → is_live st.store m ≡ true)
         → extra u moved' main_name ≡ 1
@@ -135,7 +135,7 @@ module _ (setting : Setting) (statics : List ℕ) where
         let b = total m in
         omega (arith, a, b)
 
-    fit_here : fits setting.program st.store (read st cell) type ≡ true
+    fit_here : is_of_kind setting.program st.store (read st cell) type ≡ true
     fit_here = read_fits setting E (shape_of setting.program s) s.class st cell type t has
 
     change : (v : Value) (m : ℕ) → held m (written st cell v) + one_if_name m (read st cell)

@@ -24,12 +24,12 @@ use Rattle.method_calls.specs.roopl_semantics.Value.{element_cell}
 use Rattle.method_calls.specs.roopl_semantics.Value.{read_cell, slot_or_field, combined}
 use Rattle.method_calls.specs.roopl_semantics.Execution.{Setting, opened, closed}
 use Rattle.method_calls.specs.roopl_semantics.Laws.{one_if_name}
-use Rattle.method_calls.specs.meaning_sound.Sound.{fits, value_of, local_type, AllFit}
+use Rattle.method_calls.specs.meaning_sound.Sound.{is_of_kind, bound_value, local_type, AllFit}
 use Rattle.method_calls.specs.class_rules.Inheritance.{kind_of_var}
 use Rattle.method_calls.proofs.meaning_sound_laws.Classes.{KnowsClasses}
 use Rattle.method_calls.proofs.class_rules_laws.FirstPlaces.{position_cons}
 use Rattle.method_calls.proofs.meaning_sound_laws.Values.{ValueFits, int_value, value_fits, IsInt}
-use Rattle.method_calls.specs.refine_form.Form.{World, Scope, with_var, told}
+use Rattle.method_calls.specs.refine_form.Form.{World, Scope, with_var, run_result}
 use Rattle.method_calls.specs.Facts.{LocalFacts, new_word}
 use Rattle.method_calls.specs.refine_form.Frames.{Under, value_word, OpenFrame}
 use Rattle.refine_calls.proofs.SlotMoves.{new_set, new_clear}
@@ -119,7 +119,7 @@ module _ (program : Source) (b : Binding) (frame : List Binding) (self depth : �
 -- ---- ints
 
 -- what a run of an evaluation gave
-pub told_ok : (n : ℕ) (r : Result Value ℕ) (v : Value) (c : ℕ) → told (after_cost n (given r)) ≡ Fine v c → r ≡ Ok v
+pub told_ok : (n : ℕ) (r : Result Value ℕ) (v : Value) (c : ℕ) → run_result (after_cost n (given r)) ≡ Fine v c → r ≡ Ok v
 told_ok n (Ok x) v c e = let s : x ≡ v = cc in ap (λ z. Ok z) s
 told_ok n (Err f) v c e = absurd (cc)
 
@@ -143,7 +143,7 @@ null_reads program st other (Variable name) h = absurd h
 null_reads program st other (Element name index) h = absurd h
 null_reads program st other (Binary at o left right) h = absurd h
 
-nil_fits : (program : Source) (store : Store) (k : Kind) → is_int k ≡ false → fits program store Nil k ≡ true
+nil_fits : (program : Source) (store : Store) (k : Kind) → is_int k ≡ false → is_of_kind program store Nil k ≡ true
 nil_fits program store k h = ap not h
 
 ok_same : (r : Result Value ℕ) (a b : Value) → r ≡ Ok a → r ≡ Ok b → a ≡ b
@@ -155,7 +155,7 @@ IsReference (Word w) = ⊥
 IsReference Nil = Unit {0}
 IsReference (Name n) = Unit {0}
 
-reference : (program : Source) (store : Store) (v : Value) (k : Kind) → is_int k ≡ false → fits program store v k ≡ true
+reference : (program : Source) (store : Store) (v : Value) (k : Kind) → is_int k ≡ false → is_of_kind program store v k ≡ true
     → IsReference v
 reference program store (Word w) k h f = absurd (let e : (is_int k && nat_lt w (2 ^ 32))
     ≡ false = ap (λ b. b && nat_lt w (2 ^ 32)) h in cc)
@@ -193,7 +193,7 @@ module _ (place : Place) (accepted : IsAccepted place.setting.program) (few : le
 
   -- the value of a new variable: of its type, no name, a word
   pub record IsNew (st : State) (var : Var) (v : Value) : Type 0 where
-    pub fit : fits program st.store v (kind_of_var program var) ≡ true
+    pub fit : is_of_kind program st.store v (kind_of_var program var) ≡ true
     pub none : (m : ℕ) → one_if_name m v ≡ 0
     pub small : (at : Placing) → value_word setting statics at v < 2 ^ 32
 
@@ -209,15 +209,15 @@ module _ (place : Place) (accepted : IsAccepted place.setting.program) (few : le
 
   new_int : (st : State) (var : Var) (v : Value) → kind_of_var program var ≡ kind.Int → IsInt v → IsNew st var v
   new_int st var v k i = record {
-    fit = subst (λ z. fits program st.store z (kind_of_var program var) ≡ true) (sym i.is)
-        (subst (λ z. fits program st.store (Word i.word) z ≡ true) (sym k) (word_fits program st.store i.word i.small));
+    fit = subst (λ z. is_of_kind program st.store z (kind_of_var program var) ≡ true) (sym i.is)
+        (subst (λ z. is_of_kind program st.store (Word i.word) z ≡ true) (sym k) (word_fits program st.store i.word i.small));
     none = λ m. ap (one_if_name m) i.is;
     small = λ at. subst (λ z. value_word setting statics at z < 2 ^ 32) (sym i.is) i.small;
   }
 
   new_nil : (st : State) (var : Var) (v : Value) → is_int (kind_of_var program var) ≡ false → v ≡ Nil → IsNew st var v
   new_nil st var v k i = record {
-    fit = subst (λ z. fits program st.store z (kind_of_var program var) ≡ true) (sym i)
+    fit = subst (λ z. is_of_kind program st.store z (kind_of_var program var) ≡ true) (sym i)
         (nil_fits program st.store (kind_of_var program var) k);
     none = λ m. ap (one_if_name m) i;
     small = λ at. subst (λ z. value_word setting statics at z < 2 ^ 32) (sym i) (omega arith);
@@ -302,7 +302,7 @@ module _ (place : Place) (accepted : IsAccepted place.setting.program) (few : le
     pub rest : List Binding
     pub value : Value
     pub frame_is : st.frame ≡ record { name = var.name.text; value = value } ∷ rest
-    pub fit : fits program st.store value (kind_of_var program var) ≡ true
+    pub fit : is_of_kind program st.store value (kind_of_var program var) ≡ true
 
   pub has_var : (s : Scope) (u : Under) (st : State) (cells : List ℕ) (var : Var)
       → Stands setting statics (with_var s var) u [] st cells → HasVar st var
@@ -310,7 +310,7 @@ module _ (place : Place) (accepted : IsAccepted place.setting.program) (few : le
     where
       by : (frame : List Binding) → st.frame ≡ frame → map (λ (x : Binding). x.name) frame
           ≡ map (λ (v : Var). v.name.text) (var ∷ s.vars) → AllFit program st.store
-          (map local_type (shape_of program (with_var s var))) (map value_of frame) → HasVar st var
+          (map local_type (shape_of program (with_var s var))) (map bound_value frame) → HasVar st var
       by [] q names all = absurd all
       by (b ∷ rest) q names all =
           let same : b.name ≡ var.name.text = heads names in
@@ -429,7 +429,7 @@ module _ (place : Place) (accepted : IsAccepted place.setting.program) (few : le
 
     -- an int: its value, and the closing value
     own_int : kind_of_var program var ≡ kind.Int → IsInt has.value
-    own_int k = int_value program st.store has.value (subst (λ z. fits program st.store has.value z ≡ true) k has.fit)
+    own_int k = int_value program st.store has.value (subst (λ z. is_of_kind program st.store has.value z ≡ true) k has.fit)
 
     int_none : kind_of_var program var ≡ kind.Int → (m : ℕ) → one_if_name m has.value ≡ 0
     int_none k m = let i = own_int k in ap (one_if_name m) i.is
@@ -442,7 +442,7 @@ module _ (place : Place) (accepted : IsAccepted place.setting.program) (few : le
     own_reference k = reference program st.store has.value (kind_of_var program var) k has.fit
 
     pub closes : (e : Expression) → IsInit program s var e → (v : Value) (c : ℕ)
-        → told (evaluated program e (closed st)) ≡ Fine v c → same_value (read st (Slot 0)) v ≡ true
+        → run_result (evaluated program e (closed st)) ≡ Fine v c → same_value (read st (Slot 0)) v ≡ true
         → Stands setting statics s u [] (closed st) (slice_set cells (word_place u s) 0)
     closes e is v c t same = goes_counted (by is.value)
       where
@@ -467,7 +467,7 @@ module _ (place : Place) (accepted : IsAccepted place.setting.program) (few : le
         omega (arith, q)
 
     pub same_words : (e : Expression) → IsInit program s var e → (v : Value) (c : ℕ)
-        → told (evaluated program e (closed st)) ≡ Fine v c → same_value (read st (Slot 0)) v ≡ true → words_xor v ≡ 0
+        → run_result (evaluated program e (closed st)) ≡ Fine v c → same_value (read st (Slot 0)) v ≡ true → words_xor v ≡ 0
     same_words e is v c t same = by is.value
       where
         ok : value program (closed st) e ≡ Ok v
@@ -497,7 +497,7 @@ module _ (place : Place) (accepted : IsAccepted place.setting.program) (few : le
         omega (arith, e, above_zero)
 
     pub other_words : (e : Expression) → IsInit program s var e → (v : Value) (c : ℕ)
-        → told (evaluated program e (closed st)) ≡ Fine v c → same_value (read st (Slot 0)) v ≡ false → words_xor v ≡ 0
+        → run_result (evaluated program e (closed st)) ≡ Fine v c → same_value (read st (Slot 0)) v ≡ false → words_xor v ≡ 0
         → ⊥
     other_words e is v c t other z = by is.value
       where

@@ -13,12 +13,12 @@ use Rattle.buddy_pisa.specs.buddy_book.Place.{Placing}
 use Rattle.method_calls.specs.roopl_semantics.Store.{Value, OfClass, Store, Binding, State, object_at, class_of_head}
 use Rattle.method_calls.specs.roopl_semantics.Value.{Cell, Slot, Part, read, written}
 use Rattle.method_calls.specs.roopl_semantics.Execution.{Setting}
-use Rattle.method_calls.specs.meaning_sound.Sound.{head_of, head_named, local_type, value_of, cell_kind}
+use Rattle.method_calls.specs.meaning_sound.Sound.{head_of, head_named, local_type, bound_value, cell_kind}
 use Rattle.method_calls.proofs.meaning_sound_laws.Lists.{all_inside}
 use Rattle.method_calls.proofs.meaning_sound_laws.Stores.{live_object}
 use Rattle.method_calls.proofs.meaning_sound_laws.Cells.{heads_written}
 use Rattle.method_calls.specs.refine_form.Form.{Scope, Moved}
-use Rattle.method_calls.specs.refine_form.Frames.{Caller, Under, base, stack_base, address_of, value_word, values_of}
+use Rattle.method_calls.specs.refine_form.Frames.{CallerFrame, Under, base, stack_base, address_of, value_word, values_of}
 use Rattle.method_calls.specs.refine_form.Frames.{frame_words}
 use Rattle.method_calls.specs.refine_form.Frames.{callers_words, above_words, stack_words, memory, before_stack}
 use Rattle.method_calls.specs.refine_form.Frames.{StandsAt}
@@ -42,7 +42,7 @@ module _ (setting : Setting) (statics : List ℕ) where
 
   -- the objects of active calls keep their addresses
   pub callers_on : (at : Placing) (store other : Store) → ((m : ℕ) → head_named other m ≡ head_named store m)
-      → (callers : List Caller) → CallersFit setting statics store callers
+      → (callers : List CallerFrame) → CallersFit setting statics store callers
       → CallersStand setting statics at store callers → CallersStand setting statics at other callers
   callers_on at store other heads [] f h = tt
   callers_on at store other heads (c ∷ callers) f h = (
@@ -83,7 +83,7 @@ module _ (setting : Setting) (statics : List ℕ) where
     slot_there : (i : ℕ) (k : Kind) → cell_kind setting.program (shape_of setting.program s) st.store (Slot i) ≡ Some k
         → i < length st.frame
     slot_there i k e = let l = all_inside setting.program st.store (map local_type (shape_of setting.program s))
-        (map value_of st.frame) i k h.keeps.variables e in let m = length-map st.frame value_of in omega (arith, l, m)
+        (map bound_value st.frame) i k h.keeps.variables e in let m = length-map st.frame bound_value in omega (arith, l, m)
 
     slot_is : (i : ℕ) → place_of at u st (Slot i) ≡ length
         (below setting statics at st.store u.callers u.put_by h.frame.put_long

@@ -10,7 +10,7 @@ use Rattle.method_calls.specs.class_rules.declared.kind.Kind.{Kind}
 use Rattle.method_calls.specs.roopl_semantics.Store.{Value, Name, OfClass, State, main_name, object_at, class_of_head}
 use Rattle.method_calls.specs.roopl_semantics.Execution.{Setting, bound}
 use Rattle.method_calls.specs.roopl_semantics.Laws.{one_if_name, holders_among}
-use Rattle.method_calls.specs.meaning_sound.Sound.{named_fits, head_named, is_live, AllFit, local_type, value_of, held, cell_kind}
+use Rattle.method_calls.specs.meaning_sound.Sound.{named_fits, head_named, is_live, AllFit, local_type, bound_value, held, cell_kind}
 use Rattle.method_calls.proofs.meaning_sound_laws.Objects.{all_live}
 use Rattle.method_calls.proofs.meaning_sound_laws.Stores.{same_number, other_number}
 use Rattle.method_calls.proofs.meaning_sound_laws.Invocations.{types_of_params, bound_values}
@@ -78,7 +78,7 @@ module _ (place : Place) where
     fit = moved_types setting statics st.store s u args (map local_type (shape_of setting.program s')) vals kinds
         k.moved_fit.1 many
 
-    bound_are : map value_of (bound s'.vars vals) ≡ vals
+    bound_are : map bound_value (bound s'.vars vals) ≡ vals
     bound_are = bound_values setting.program st.store s'.vars vals
         (subst (λ ks. AllFit setting.program st.store ks vals) (types_of_params setting.program s'.vars) fit)
 
@@ -91,12 +91,12 @@ module _ (place : Place) where
         omega (arith, a, b, r)
 
     live : (m : ℕ) → 0 < extra (deeper_on place s u st n) [] m → is_live st.store m ≡ true
-    live m p = by (nat_lt 0 (holders_among m (map value_of st.frame))) refl
+    live m p = by (nat_lt 0 (holders_among m (map bound_value st.frame))) refl
       where
-        by : (b : Bool) → nat_lt 0 (holders_among m (map value_of st.frame)) ≡ b → is_live st.store m ≡ true
+        by : (b : Bool) → nat_lt 0 (holders_among m (map bound_value st.frame)) ≡ b → is_live st.store m ≡ true
         by true e = all_live setting.program st.store (map local_type (shape_of setting.program s))
-            (map value_of st.frame) m k.variables (ltb-true 0 (holders_among m (map value_of st.frame)) e)
-        by false e = k.lives m (let q = ltb-false 0 (holders_among m (map value_of st.frame)) e in
+            (map bound_value st.frame) m k.variables (ltb-true 0 (holders_among m (map bound_value st.frame)) e)
+        by false e = k.lives m (let q = ltb-false 0 (holders_among m (map bound_value st.frame)) e in
             let r = receiver_once u n positive m in omega (arith, q, p, r))
 
     pub counts_on : CountsAre u (taken x n ∷ pairs args vals) st → CountsAre (deeper_on place s u st n) [] on_state
@@ -127,7 +127,7 @@ module _ (place : Place) where
   module _ (s s' : Scope) (u : Under) (x : Ident) (n : ℕ) (st end : State) (args : List Ident) (moved : List Moved)
       (before : Kept setting statics s u moved st) (k : Kept setting statics s' (deeper_on place s u st n) [] end)
       (kinds : HaveKinds setting statics end.store s u args (map local_type (shape_of setting.program s')))
-      (many : length (map value_of end.frame) ≡ length args) (type : Kind)
+      (many : length (map bound_value end.frame) ≡ length args) (type : Kind)
       (x_has : cell_kind setting.program (shape_of setting.program s) end.store (cell_in setting statics s u x)
       ≡ Some type) (x_fit : named_fits setting.program type (head_named end.store n) ≡ true) (positive : 0 < u.object)
     where
@@ -135,22 +135,22 @@ module _ (place : Place) where
       home = record st { store = end.store; log = end.log }
 
       abbrev pub back : List Moved
-      back = taken x n ∷ pairs args (map value_of end.frame)
+      back = taken x n ∷ pairs args (map bound_value end.frame)
 
       total' : (m : ℕ) → held m home + extra u back m ≡ held m end + extra (deeper_on place s u st n) [] m
       total' m =
-          let b = ap (holders_among m) (pairs_values args (map value_of end.frame) many) in
+          let b = ap (holders_among m) (pairs_values args (map bound_value end.frame) many) in
           let r = receiver_once u n positive m in
           omega (arith, b, r)
 
       live' : (m : ℕ) → 0 < extra u back m → is_live end.store m ≡ true
-      live' m p = by (nat_lt 0 (holders_among m (map value_of end.frame))) refl
+      live' m p = by (nat_lt 0 (holders_among m (map bound_value end.frame))) refl
         where
-          by : (b : Bool) → nat_lt 0 (holders_among m (map value_of end.frame)) ≡ b → is_live end.store m ≡ true
+          by : (b : Bool) → nat_lt 0 (holders_among m (map bound_value end.frame)) ≡ b → is_live end.store m ≡ true
           by true e = all_live setting.program end.store (map local_type (shape_of setting.program s'))
-              (map value_of end.frame) m k.variables (ltb-true 0 (holders_among m (map value_of end.frame)) e)
-          by false e = k.lives m (let q = ltb-false 0 (holders_among m (map value_of end.frame)) e in
-              let b = ap (holders_among m) (pairs_values args (map value_of end.frame) many) in
+              (map bound_value end.frame) m k.variables (ltb-true 0 (holders_among m (map bound_value end.frame)) e)
+          by false e = k.lives m (let q = ltb-false 0 (holders_among m (map bound_value end.frame)) e in
+              let b = ap (holders_among m) (pairs_values args (map bound_value end.frame) many) in
               let r = receiver_once u n positive m in omega (arith, q, p, b, r))
 
       pub counts_off : CountsAre (deeper_on place s u st n) [] end → CountsAre u back home
@@ -178,7 +178,7 @@ module _ (place : Place) where
         moved_fit = (
           record { kind = type; of_cell = x_has; fit = x_fit },
           types_moved setting statics end.store s u args (map local_type (shape_of setting.program s'))
-              (map value_of end.frame) kinds k.variables,
+              (map bound_value end.frame) kinds k.variables,
         );
       }
 

@@ -23,7 +23,7 @@ use Rattle.method_calls.specs.roopl_semantics.Store.{number_of, cleared}
 use Rattle.method_calls.specs.roopl_semantics.Value.{Cell, Slot, Part, read, written, with_value}
 use Rattle.method_calls.specs.roopl_semantics.Layout.{no_placing}
 use Rattle.method_calls.specs.roopl_semantics.Execution.{Setting, bound}
-use Rattle.method_calls.specs.meaning_sound.Sound.{named_fits, head_named, fits, local_type, value_of, cell_kind}
+use Rattle.method_calls.specs.meaning_sound.Sound.{named_fits, head_named, is_of_kind, local_type, bound_value, cell_kind}
 use Rattle.method_calls.proofs.meaning_sound_laws.Lists.{all_inside}
 use Rattle.method_calls.proofs.meaning_sound_laws.Stores.{other_number, changed_here}
 use Rattle.method_calls.proofs.meaning_sound_laws.Cells.{part_of, heads_written, read_fits, kind_stays, value_at_is}
@@ -31,16 +31,16 @@ use Rattle.method_calls.proofs.meaning_sound_laws.Cells.{with_value_values}
 use Rattle.method_calls.proofs.meaning_sound_laws.Classes.{KnowsClasses}
 use Rattle.method_calls.proofs.refine_frame_laws.Memory.{base_above}
 use Rattle.method_calls.proofs.refine_frame_laws.Tells.{IsReference, reference_read, name_word as reference_word}
-use Rattle.method_calls.specs.refine_form.Form.{Scope, Moved, Routines, pairs}
+use Rattle.method_calls.specs.refine_form.Form.{Scope, Moved, MethodRoutines, pairs}
 use Rattle.method_calls.specs.refine_form.Frames.{Under, base, stack_base, address_of, value_word, before_stack}
 use Rattle.method_calls.specs.refine_form.Frames.{cell_in}
 use Rattle.method_calls.specs.refine_form.Frames.{OpenFrame, spare_words}
 use Rattle.method_calls.specs.refine_form.Stands.{shape_of, extra, moved_values, spot_in, setup, Kept, Reads, Stands}
 use Rattle.method_calls.specs.refine_form.Worlds.{Place, world_of}
-use Rattle.method_calls.specs.Facts.{ReceiverWords, OnFacts, ReceiverFacts, GoesOn, ComesBack, HasPlace, address}
+use Rattle.method_calls.specs.Facts.{ReceiverWords, OnFacts, ReceiverFacts, ReceiverGoesOn, ReturnsReceiver, HasPlace, address}
 use Rattle.method_calls.specs.Facts.{out_from}
-use Rattle.method_calls.specs.Names.{IsReceiver, IsVariable, class_named, class_found, slot_of, deeper, deeper_on}
-use Rattle.method_calls.specs.Names.{known_of, receivers_of}
+use Rattle.method_calls.specs.Names.{IsReceiver, IsVariable, class_number_named, class_found, method_slot_of, deeper, deeper_on}
+use Rattle.method_calls.specs.Names.{known_calls_of, receivers_of}
 use Rattle.refine_calls.specs.Laws.{Route, IsLinked}
 use Rattle.refine_calls.proofs.FramesFit.{enters, leaves, object_word, put_object}
 use Rattle.refine_calls.proofs.SlotMoves.{zero_word, other_word, cleared_word, length_with}
@@ -71,7 +71,7 @@ is_of program (Some (OfInts n)) class e = absurd (cc)
 is_of program (Some (OfObjects own n)) class e = absurd (cc)
 
 -- a value of a class is nil or a name
-name_there : (program : Source) (store : Store) (class : ℕ) (v : Value) → fits program store v (kind.Class class) ≡ true
+name_there : (program : Source) (store : Store) (class : ℕ) (v : Value) → is_of_kind program store v (kind.Class class) ≡ true
     → is_nil v ≡ false → v ≡ Name (number_of v)
 name_there program store class (Word w) f e = absurd (cc)
 name_there program store class Nil f e = absurd (cc)
@@ -108,7 +108,7 @@ module _ (place : Place) (routine : ℕ → Ident → ℕ) (linked : IsLinked pl
   abbrev program : Source
   program = place.setting.program
 
-  abbrev routines : Routines
+  abbrev routines : MethodRoutines
   routines = place.routines
 
   abbrev known_classes : KnowsClasses place.setting.program
@@ -119,12 +119,12 @@ module _ (place : Place) (routine : ℕ → Ident → ℕ) (linked : IsLinked pl
   as_variable s x name args r = record { kind = kind.Class r.class; typed = r.typed; near = r.near }
 
   class_is : (s : Scope) (x name : Ident) (args : List Ident) (r : IsReceiver program s x name args)
-      → class_named program s x ≡ r.class
+      → class_number_named program s x ≡ r.class
   class_is s x name args r = ap class_found r.typed
 
   slot_is : (s : Scope) (x name : Ident) (args : List Ident) (r : IsReceiver program s x name args)
-      → slot_of program (class_named program s x) name ≡ r.method.slot
-  slot_is s x name args r = ap (λ c. slot_of program c name) (class_is s x name args r)
+      → method_slot_of program (class_number_named program s x) name ≡ r.method.slot
+  slot_is s x name args r = ap (λ c. method_slot_of program c name) (class_is s x name args r)
       ∙ ap (λ o. unwrap_or o 0) r.method.is_slot
 
   abbrev own_of : State → ℕ → ℕ
@@ -160,7 +160,7 @@ module _ (place : Place) (routine : ℕ → Ident → ℕ) (linked : IsLinked pl
     pub has : cell_kind program (shape_of program s) st.store c ≡ Some k
     has = cell_has setting statics known_classes s u moved st cells (reads_of h) x (as_variable s x name args r)
 
-    pub fit : fits program st.store (read st c) k ≡ true
+    pub fit : is_of_kind program st.store (read st c) k ≡ true
     fit = read_fits setting E (shape_of program s) s.class st c k
         (typed setting statics s u moved st cells (reads_of h)) has
 
@@ -190,8 +190,8 @@ module _ (place : Place) (routine : ℕ → Ident → ℕ) (linked : IsLinked pl
     small = by (read st c) refl
       where
         by : (v : Value) → read st c ≡ v → slice_index cells at < 2 ^ 31
-        by (Word w) e = absurd (let f : fits program st.store (Word w) k
-            ≡ true = subst (λ v. fits program st.store v k ≡ true) e fit in cc)
+        by (Word w) e = absurd (let f : is_of_kind program st.store (Word w) k
+            ≡ true = subst (λ v. is_of_kind program st.store v k ≡ true) e fit in cc)
         by Nil e = let z : slice_index cells at ≡ 0 = got ∙ ap (value_word setting statics h.frame.at) e in
             omega (arith, z)
         by (Name n) e =
@@ -218,7 +218,7 @@ module _ (place : Place) (routine : ℕ → Ident → ℕ) (linked : IsLinked pl
 
     -- the object that it names
     pub names : (n : ℕ) → read st c ≡ Name n → IsOf program (head_named st.store n) r.class
-    names n e = is_of program (head_named st.store n) r.class (subst (λ v. fits program st.store v k ≡ true) e fit)
+    names n e = is_of program (head_named st.store n) r.class (subst (λ v. is_of_kind program st.store v k ≡ true) e fit)
 
     module _ (n : ℕ) (there : read st c ≡ Name n) (after : State)
         (same : (m : ℕ) → head_named after.store m ≡ head_named st.store m) where
@@ -253,7 +253,7 @@ module _ (place : Place) (routine : ℕ → Ident → ℕ) (linked : IsLinked pl
 
       by : (c : Cell) → cell_kind program (shape_of program s) (written st c v).store c ≡ Some k
           → Rattle.method_calls.specs.meaning_sound.Sound.AllFit program (written st c v).store
-          (map local_type (shape_of program s)) (map value_of (written st c v).frame)
+          (map local_type (shape_of program s)) (map bound_value (written st c v).frame)
           → ((m : ℕ) (object : Object) → Rattle.method_calls.specs.roopl_semantics.Store.object_named
           (written st c v).store m
           ≡ Some object → Rattle.method_calls.specs.meaning_sound.Sound.AllFit program (written st c v).store
@@ -261,13 +261,13 @@ module _ (place : Place) (routine : ℕ → Ident → ℕ) (linked : IsLinked pl
           → read (written st c v) c ≡ v
       by (Slot i) e variables objects =
           let l = all_inside program (written st (Slot i) v).store (map local_type (shape_of program s))
-          (map value_of (with_value st.frame i v)) i k variables e in
-          let a = length-map (with_value st.frame i v) value_of in
-          let b = length-map st.frame value_of in
+          (map bound_value (with_value st.frame i v)) i k variables e in
+          let a = length-map (with_value st.frame i v) bound_value in
+          let b = length-map st.frame bound_value in
           let d = length_with setting statics no_placing st.frame i v in
           value_at_is (with_value st.frame i v) i ∙ ap (λ vs. unwrap_or (Rattle.std.specs.Prelude.slice_get vs i) Nil)
           (with_value_values st.frame i v)
-          ∙ set_get (map value_of st.frame) i v (omega (arith, l, a, b, d))
+          ∙ set_get (map bound_value st.frame) i v (omega (arith, l, a, b, d))
       by (Part n i) e variables objects =
           let st1 = written st (Part n i) v in
           let f : Object → Object = λ o. record o { cells = slice_set o.cells i v } in
@@ -485,7 +485,7 @@ module _ (place : Place) (routine : ℕ → Ident → ℕ) (linked : IsLinked pl
         (sym (other_number n main_name other))
         ∙ ap (λ o. address_of setting statics (unwrap_or o no_placing) n) (sym p)
 
-    pub goes_on : GoesOn cells at1 up1 u.object (address_of setting statics
+    pub goes_on : ReceiverGoesOn cells at1 up1 u.object (address_of setting statics
         (unwrap_or (placing_of setting.limits.heap st1.log) no_placing) n)
         (Stands setting statics s1 (deeper_on place s u st1 n) []
         (callee_at (routines.method (routine (own_of st1 n) name)).params st.depth st.log))
@@ -528,7 +528,7 @@ module _ (place : Place) (routine : ℕ → Ident → ℕ) (linked : IsLinked pl
     up2 = frame_address setting statics u + (FRAME_WORDS + OBJECT_WORD)
 
     module _ (o : Stands setting statics s2 on2 [] end cells)
-        (suits : is_or_inherits program (own_of st2 n) (class_named program s x) ≡ true) where
+        (suits : is_or_inherits program (own_of st2 n) (class_number_named program s x) ≡ true) where
       above2 : is_or_inherits program (own_of st2 n) r.class ≡ true
       above2 = subst (λ z. is_or_inherits program (own_of st2 n) z ≡ true) (class_is s x name args r) suits
 
@@ -705,7 +705,7 @@ module _ (place : Place) (routine : ℕ → Ident → ℕ) (linked : IsLinked pl
             word2_small;
       }
 
-      pub comes_back : ComesBack cells at2 up2 u.object on2.object (is_zero (read home2 c2))
+      pub comes_back : ReturnsReceiver cells at2 up2 u.object on2.object (is_zero (read home2 c2))
           (Stands setting statics s u args2 (written home2 c2 (Name n)))
       comes_back = record {
         words = record {
@@ -730,8 +730,8 @@ module _ (place : Place) (routine : ℕ → Ident → ℕ) (linked : IsLinked pl
   -- the callee's code address is in the table of the receiver's class
   pub place_on : (s : Scope) (u : Under) (st end : State) (cells : List ℕ) (x name : Ident) (args : List Ident) (n : ℕ)
       → Stands setting statics (scope_on st n name) (deeper_on place s u st n) [] end cells
-      → (r : IsReceiver program s x name args) → is_or_inherits program (own_of st n) (class_named program s x) ≡ true
-      → HasPlace cells (deeper_on place s u st n).object (slot_of program (class_named program s x) name)
+      → (r : IsReceiver program s x name args) → is_or_inherits program (own_of st n) (class_number_named program s x) ≡ true
+      → HasPlace cells (deeper_on place s u st n).object (method_slot_of program (class_number_named program s x) name)
       (routines.top (routine (own_of st n) name) + 1)
   place_on s u st end cells x name args n o r suits =
       let own = own_of st n in
@@ -749,7 +749,7 @@ module _ (place : Place) (routine : ℕ → Ident → ℕ) (linked : IsLinked pl
 
   pub as_many_on : (s : Scope) (u : Under) (st end : State) (cells : List ℕ) (x name : Ident) (args : List Ident)
       (n : ℕ) → Stands setting statics (scope_on st n name) (deeper_on place s u st n) [] end cells
-      → (r : IsReceiver program s x name args) → is_or_inherits program (own_of st n) (class_named program s x) ≡ true
+      → (r : IsReceiver program s x name args) → is_or_inherits program (own_of st n) (class_number_named program s x) ≡ true
       → length (map (λ (b : Binding). b.value) end.frame) ≡ length args
   as_many_on s u st end cells x name args n o r suits =
       let own = own_of st n in
@@ -779,7 +779,7 @@ module _ (place : Place) (routine : ℕ → Ident → ℕ) (linked : IsLinked pl
     above5 : is_or_inherits program (own_of caller n5) r.class ≡ true
     above5 = own_above s u [] st cells h x name args r n5 named5 caller heads5
 
-    pub is_for5 : is_or_inherits program (own_of caller n5) (class_named program s x) ≡ true
+    pub is_for5 : is_or_inherits program (own_of caller n5) (class_number_named program s x) ≡ true
     is_for5 = subst (λ z. is_or_inherits program (own_of caller n5) z ≡ true) (sym (class_is s x name args r)) above5
 
     pub class5 : own_of st n5 ≡ own_of caller n5
@@ -790,7 +790,7 @@ module _ (place : Place) (routine : ℕ → Ident → ℕ) (linked : IsLinked pl
 
   abbrev Comes : Scope → Under → State → List ℕ → Ident → List Ident → ℕ → State → Type 0
   Comes s u end cells x args n z =
-      ComesBack cells (address u.object (frame_address setting statics u) (spot_in program s x))
+      ReturnsReceiver cells (address u.object (frame_address setting statics u) (spot_in program s x))
       (frame_address setting statics u + (FRAME_WORDS + OBJECT_WORD)) u.object (deeper_on place s u z n).object
       (is_zero (read (record z { store = end.store; log = end.log }) (cell_in setting statics s u x)))
       (Stands setting statics s u (pairs args (map (λ (b : Binding). b.value) end.frame))
@@ -801,9 +801,9 @@ module _ (place : Place) (routine : ℕ → Ident → ℕ) (linked : IsLinked pl
       (moved : List Moved) (before : List ℕ) → Stands setting statics s u moved st0 before
       → st ≡ written st0 (cell_in setting statics s u x) (cleared (read st0 (cell_in setting statics s u x)))
       → Stands setting statics (scope_on st n name) (deeper_on place s u st n) [] end cells
-      → (r : IsReceiver program s x name args) → is_or_inherits program (own_of st n) (class_named program s x)
+      → (r : IsReceiver program s x name args) → is_or_inherits program (own_of st n) (class_number_named program s x)
       ≡ true
-      → ComesBack cells (address u.object (frame_address setting statics u) (spot_in program s x))
+      → ReturnsReceiver cells (address u.object (frame_address setting statics u) (spot_in program s x))
       (frame_address setting statics u + (FRAME_WORDS + OBJECT_WORD)) u.object (deeper_on place s u st n).object
       (is_zero (read (record st { store = end.store; log = end.log }) (cell_in setting statics s u x)))
       (Stands setting statics s u (pairs args (map (λ (b : Binding). b.value) end.frame))
@@ -812,9 +812,9 @@ module _ (place : Place) (routine : ℕ → Ident → ℕ) (linked : IsLinked pl
       subst (λ z. Comes s u end cells x args n z) (sym out)
       (comes_back s u st0 end cells x name args n moved before h r
       (subst (λ z. Stands setting statics (scope_on z n name) (deeper_on place s u z n) [] end cells) out o)
-      (subst (λ z. is_or_inherits program (own_of z n) (class_named program s x) ≡ true) out suits))
+      (subst (λ z. is_or_inherits program (own_of z n) (class_number_named program s x) ≡ true) out suits))
 
-  receiver_words : ReceiverWords (world_of place) (known_of place routine) (receivers_of place)
+  receiver_words : ReceiverWords (world_of place) (known_calls_of place routine) (receivers_of place)
   receiver_words = record {
     is_variable = λ s x name args r. as_variable s x name args r;
     word = λ s u st cells x name args h r. record {
@@ -827,7 +827,7 @@ module _ (place : Place) (routine : ℕ → Ident → ℕ) (linked : IsLinked pl
     is_there = λ s u vals st v cells x name args h r. is_there s u vals st v cells x name args h r;
   }
 
-  on_facts : OnFacts (world_of place) (known_of place routine) (receivers_of place)
+  on_facts : OnFacts (world_of place) (known_calls_of place routine) (receivers_of place)
   on_facts = record {
     slot_small = λ s x name args r. subst (λ z. z < 2 ^ 20) (sym (slot_is s x name args r)) r.method.small;
     dispatches = λ s u st caller cells x name args h r e out. record {
@@ -852,5 +852,5 @@ module _ (place : Place) (routine : ℕ → Ident → ℕ) (linked : IsLinked pl
         leaves_by s u st0 st end cells x name args n vals before h out o r suits;
   }
 
-  pub receiver_facts : ReceiverFacts (world_of place) (known_of place routine) (receivers_of place)
+  pub receiver_facts : ReceiverFacts (world_of place) (known_calls_of place routine) (receivers_of place)
   receiver_facts = record { words = receiver_words; calls = on_facts }

@@ -10,7 +10,7 @@ use Rattle.buddy_pisa.specs.buddy_book.Place.{Placing}
 use Rattle.method_calls.specs.roopl_semantics.Store.{Value, Word, Nil, Name, Binding, Store, is_zero, cleared}
 use Rattle.method_calls.specs.roopl_semantics.Value.{with_value, value_at}
 use Rattle.method_calls.specs.roopl_semantics.Execution.{Setting}
-use Rattle.method_calls.specs.refine_form.Frames.{Caller, Under, base, stack_base, value_word, values_of, value_words}
+use Rattle.method_calls.specs.refine_form.Frames.{CallerFrame, Under, base, stack_base, value_word, values_of, value_words}
 use Rattle.method_calls.specs.refine_form.Frames.{frame_words, callers_words, above_words, stack_words, memory, before_stack}
 use Rattle.refine_calls.proofs.FramesFit.{frame_at, length_values, length_map, length_frame}
 
@@ -97,7 +97,7 @@ module _ (setting : Setting) (statics : List ℕ) (at : Placing) where
 
   -- ---- the memory, split after what is stored above the frame
 
-  module _ (store : Store) (callers : List Caller) (put_by : List ℕ) (put_long : length put_by ≡ FIRST_VARIABLE)
+  module _ (store : Store) (callers : List CallerFrame) (put_by : List ℕ) (put_long : length put_by ≡ FIRST_VARIABLE)
       (long_callers : length (callers_words setting statics at callers) ≡ FRAME_WORDS * length callers)
       (vals : List Value)
     where
@@ -183,7 +183,7 @@ module _ (setting : Setting) (statics : List ℕ) (at : Placing) where
 
   -- ---- the memory, split in the frame above
 
-  module _ (store : Store) (callers : List Caller) (own : List ℕ) (long_own : length own ≡ FRAME_WORDS)
+  module _ (store : Store) (callers : List CallerFrame) (own : List ℕ) (long_own : length own ≡ FRAME_WORDS)
       (long_callers : length (callers_words setting statics at callers) ≡ FRAME_WORDS * length callers) where
     abbrev M : ℕ
     M = FRAME_WORDS * setting.limits.deep

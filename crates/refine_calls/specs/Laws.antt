@@ -19,15 +19,15 @@ use Rattle.buddy_pisa.specs.pisa_isa.Image.{Segments}
 use Rattle.buddy_pisa.specs.pisa_isa.declared.image.TheConstants.{MOST_STATICS}
 use Rattle.method_calls.specs.roopl_semantics.Layout.{HasStatics}
 use Rattle.method_calls.specs.roopl_semantics.Source.{IsValid, main_body}
-use Rattle.method_calls.specs.refine_form.Form.{Routines}
+use Rattle.method_calls.specs.refine_form.Form.{MethodRoutines}
 use Rattle.method_calls.specs.refine_form.Worlds.{Place, world_of}
 use Rattle.method_calls.specs.Facts.{FrameFacts, ReceiverFacts, LocalFacts, MainFacts}
-use Rattle.method_calls.specs.Names.{known_of, receivers_of, IsInit}
+use Rattle.method_calls.specs.Names.{known_calls_of, receivers_of, IsInit}
 
 -- The routine of a method in a class runs the method that the class has for the name, in the scope
 -- of the class that the method is written in. Its code address is in the method's slot of the
 -- class.
-pub record Route (program : Source) (places : List (List ℕ)) (routines : Routines)
+pub record Route (program : Source) (places : List (List ℕ)) (routines : MethodRoutines)
     (routine : ℕ → Ident → ℕ) (own slot : ℕ) (name : Ident) : Type 0 where
   pub below : routine own name < routines.count
   pub method_is : method_named program own name.text ≡ routines.method (routine own name)
@@ -72,13 +72,13 @@ pub record IsLinked (place : Place) (routine : ℕ → Ident → ℕ) : Type 0 w
 abbrev pub FramesAreOpen : Type 0
 FramesAreOpen =
     (place : Place) (routine : ℕ → Ident → ℕ) → IsLinked place routine
-    → FrameFacts (world_of place) (known_of place routine)
+    → FrameFacts (world_of place) (known_calls_of place routine)
 
 -- and what calls on the object of a variable assume in addition
 abbrev pub ReceiversAreOpen : Type 0
 ReceiversAreOpen =
     (place : Place) (routine : ℕ → Ident → ℕ) → IsLinked place routine
-    → ReceiverFacts (world_of place) (known_of place routine) (receivers_of place)
+    → ReceiverFacts (world_of place) (known_calls_of place routine) (receivers_of place)
 
 -- and what blocks with a local variable take, of any type
 abbrev pub LocalsAreOpen : Type 0

@@ -17,7 +17,7 @@ use Rattle.refine_calls.specs.refine_form.Frames.{Under, value_word}
 use Rattle.refine_calls.specs.refine_form.Stands.{shape_of, extra, setup, Reads}
 use Rattle.expr_uncompute.specs.register_expressions.Number.{index_of}
 use Rattle.expr_uncompute.specs.Means.{shown, TellsArrays, TellsShares}
-use Rattle.refine_expressions.specs.Typing.{spot_in}
+use Rattle.refine_expressions.specs.Typing.{visible_spot}
 use Rattle.refine_expressions.proofs.WordsRead.{named_has}
 use Rattle.refine_expressions.proofs.ExpressionsRead.{A, L, B, T, t0, shown_ref, element_parts, binary_parts}
 use Rattle.refine_calls.specs.pisa_isa.declared.image.TheConstants.{MOST_STATICS}
@@ -71,7 +71,7 @@ module _ (setting : Setting) (statics : List ℕ) (few : length statics ≤ MOST
   tells_arrays : (v : Value) → Ref v → (e : Expression) (k : Kind)
       → type_of (T setting statics few classes s u st cells h) (shape_of setting.program s) e ≡ Ok k
       → TellsArrays (A setting statics few classes s u st cells h) (L setting statics few classes s u st cells h)
-      setting.program st (spot_in setting.program s) (B setting statics few classes s u st cells h) cells v e
+      setting.program st (visible_spot setting.program s) (B setting statics few classes s u st cells h) cells v e
   tells_arrays v r (Number at word) k t = tt
   tells_arrays v r (Null at) k t = tt
   tells_arrays v r (Variable name) k t = tt
@@ -103,7 +103,7 @@ module _ (setting : Setting) (statics : List ℕ) (few : length statics ≤ MOST
       → place_type (T setting statics few classes s u st cells h) (shape_of setting.program s) target ≡ Ok k → HasKind e
       → HasKind e'
       → TellsShares (A setting statics few classes s u st cells h) (L setting statics few classes s u st cells h)
-      setting.program st (spot_in setting.program s) (B setting statics few classes s u st cells h) cells target e
+      setting.program st (visible_spot setting.program s) (B setting statics few classes s u st cells h) cells target e
       e'
   tells_shares (Whole name) k e e' t t1 t2 = tt
   tells_shares (Item name index) k e e' t t1 t2 =

@@ -7,7 +7,7 @@ use Rattle.refine_calls.specs.roopl_semantics.Store.{Value, State, main_name}
 use Rattle.refine_calls.specs.roopl_semantics.Value.{Cell, read, written}
 use Rattle.refine_calls.specs.roopl_semantics.Laws.{one_if_name}
 use Rattle.refine_calls.specs.roopl_semantics.Execution.{Setting}
-use Rattle.refine_calls.specs.meaning_sound.Sound.{fits, held, cell_kind}
+use Rattle.refine_calls.specs.meaning_sound.Sound.{is_of_kind, held, cell_kind}
 use Rattle.refine_calls.proofs.meaning_sound_laws.Cells.{held_written}
 use Rattle.refine_calls.specs.refine_form.Form.{Scope}
 use Rattle.refine_calls.specs.refine_form.Frames.{Under, value_word}
@@ -23,7 +23,7 @@ module _ (setting : Setting) (statics : List ℕ) (s : Scope) (u : Under) (st : 
   held_after m = held_written setting (extra u []) (shape_of setting.program s) s.class st c k v m
       (typed setting statics s u [] st cells h) has
 
-  module _ (fit : fits setting.program st.store v k ≡ true) (no_main : one_if_name main_name v ≡ 0) where
+  module _ (fit : is_of_kind setting.program st.store v k ≡ true) (no_main : one_if_name main_name v ≡ 0) where
     abbrev pub reads_after : value_word setting statics h.frame.at v < 2 ^ 32
         → Reads setting statics s u [] (written st c v) (slice_set cells (place_of setting statics h.frame.at u st c)
         (value_word setting statics h.frame.at v))

@@ -10,7 +10,7 @@ use Rattle.refine_calls.specs.rpp_tree.Tree.{Expression, Number, Null, Variable,
 use Rattle.refine_calls.specs.class_rules.declared.kind.Kind.{Kind}
 use Rattle.refine_calls.specs.class_rules.declared.kind.Kind.TheVariants as kind
 use Rattle.refine_calls.specs.class_rules.Refusal.{type_differs, refused_operator}
-use Rattle.refine_calls.specs.class_rules.Expressions.{is_int, element_kind, variable_type, type_of, element_of as element_type}
+use Rattle.refine_calls.specs.class_rules.Expressions.{is_int, element_kind, variable_type, type_of, element_kind_of as element_type}
 use Rattle.refine_calls.specs.class_rules.Expressions.{index_is_int, first_token, is_comparison, is_refused, operands_fit, compares}
 use Rattle.refine_calls.specs.class_rules.Expressions.{place_type}
 use Rattle.refine_calls.proofs.class_rules_laws.PassedRules.{handed_on, both_true, int_kind, some_of}
@@ -20,7 +20,7 @@ use Rattle.refine_calls.specs.pisa_isa.declared.image.TheConstants.{MOST_STATICS
 use Rattle.refine_calls.specs.roopl_semantics.Store.{Value, Word, Nil, Name, State, main_name, object_at, number_of}
 use Rattle.refine_calls.specs.roopl_semantics.Value.{variable_value, value, cell_named}
 use Rattle.refine_calls.specs.roopl_semantics.Execution.{Setting}
-use Rattle.refine_calls.specs.meaning_sound.Sound.{fits}
+use Rattle.refine_calls.specs.meaning_sound.Sound.{is_of_kind}
 use Rattle.refine_calls.specs.meaning_sound.Plain.{HasWords, PlaceHasWords}
 use Rattle.refine_calls.proofs.meaning_sound_laws.Classes.{KnowsClasses}
 use Rattle.refine_calls.proofs.meaning_sound_laws.Stores.{other_number}
@@ -34,7 +34,7 @@ use Rattle.refine_calls.specs.refine_form.Stands.{shape_of, extra, setup, Reads}
 use Rattle.expr_uncompute.specs.register_expressions.Number.{Bases, word_of, IsArray, Sees, lvalue_read}
 use Rattle.expr_uncompute.specs.Means.{is_equation, shown, AreOperands, words as both_words, compared, OperandsOf}
 use Rattle.expr_uncompute.specs.Means.{IsInt, StandsArray, Means, MeansPlace}
-use Rattle.refine_expressions.specs.Typing.{spot_in, free_in}
+use Rattle.refine_expressions.specs.Typing.{visible_spot, free_in_scope}
 use Rattle.refine_calls.proofs.Bridge.{typed}
 use Rattle.refine_calls.proofs.MovesFit.{frame_address}
 use Rattle.refine_calls.proofs.FactsMoves.{same_means}
@@ -63,7 +63,7 @@ module _ (setting : Setting) (statics : List ℕ) (few : length statics ≤ MOST
   S = shape_of P s
 
   abbrev pub low : ℕ
-  low = frame_address setting statics u + free_in P s
+  low = frame_address setting statics u + free_in_scope P s
 
   abbrev pub t0 : Rattle.refine_calls.specs.meaning_sound.Sound.Typed setting (extra u []) S s.class st
   t0 = typed setting statics s u [] st cells h
@@ -96,7 +96,7 @@ module _ (setting : Setting) (statics : List ℕ) (few : length statics ≤ MOST
         index_is = index_type.is ∙ ap (λ z. Ok z) both.0;
       }
 
-  no_word : (array k : Kind) (w : ℕ) → element_kind array ≡ Some k → fits P st.store (Word w) array ≡ true → ⊥
+  no_word : (array k : Kind) (w : ℕ) → element_kind array ≡ Some k → is_of_kind P st.store (Word w) array ≡ true → ⊥
   no_word kind.Int k w e f = cc
   no_word kind.Nil k w e f = cc
   no_word (kind.Class c) k w e f = cc
@@ -108,9 +108,9 @@ module _ (setting : Setting) (statics : List ℕ) (few : length statics ≤ MOST
   int_shown (Ok v) f = let i = int_value P st.store v f in ap number_of i.is ∙ sym (ap (shown A L) i.is)
 
   array_word : (name : Ident) (index : Expression) (k : Kind) (p : ElementParts name index k) (v : Value)
-      → variable_value P st name.text ≡ v → StandsArray A L P st (spot_in P s) B cells v
+      → variable_value P st name.text ≡ v → StandsArray A L P st (visible_spot P s) B cells v
   array_word name index k p (Word w) e = absurd (no_word p.array k w p.element_is
-      (subst (λ v. fits P st.store v p.array ≡ true) e (read_fits setting (extra u []) S s.class st
+      (subst (λ v. is_of_kind P st.store v p.array ≡ true) e (read_fits setting (extra u []) S s.class st
       (cell_named P st name.text) p.array t0 (named_has setting statics classes s u st cells h name p.array
       p.array_is))))
   array_word name index k p Nil e = tt
@@ -120,21 +120,21 @@ module _ (setting : Setting) (statics : List ℕ) (few : length statics ≤ MOST
       (a.apart, a.length_word, a.elements)
 
   array_sees : (name : Ident) (index : Expression) (k : Kind) (p : ElementParts name index k) (v : Value)
-      → variable_value P st name.text ≡ v → IsArray (spot_in P s) B low cells (word_of (spot_in P s) B cells name.text)
+      → variable_value P st name.text ≡ v → IsArray (visible_spot P s) B low cells (word_of (visible_spot P s) B cells name.text)
   array_sees name index k p (Word w) e = absurd (no_word p.array k w p.element_is
-      (subst (λ v. fits P st.store v p.array ≡ true) e (read_fits setting (extra u []) S s.class st
+      (subst (λ v. is_of_kind P st.store v p.array ≡ true) e (read_fits setting (extra u []) S s.class st
       (cell_named P st name.text) p.array t0 (named_has setting statics classes s u st cells h name p.array
       p.array_is))))
   array_sees name index k p Nil e =
-      let z : word_of (spot_in P s) B cells name.text ≡ 0 =
+      let z : word_of (visible_spot P s) B cells name.text ≡ 0 =
       name_word setting statics classes s u st cells h name p.array p.array_is ∙ ap (shown A L) e in
       record { short = λ q. absurd (q z); room = λ q. absurd (q z) }
   array_sees name index k p (Name n) e =
       let a = array_stands setting statics classes s u st cells h (cell_named P st name.text) p.array k n
       (named_has setting statics classes s u st cells h name p.array p.array_is) p.element_is e in
-      let z : word_of (spot_in P s) B cells name.text ≡ A n =
+      let z : word_of (visible_spot P s) B cells name.text ≡ A n =
       name_word setting statics classes s u st cells h name p.array p.array_is ∙ ap (shown A L) e in
-      let l : slice_index cells (word_of (spot_in P s) B cells name.text) ≡ length (object_at st.store n).cells =
+      let l : slice_index cells (word_of (visible_spot P s) B cells name.text) ≡ length (object_at st.store n).cells =
       ap (slice_index cells) z ∙ a.length_word in
       let small = cells_small (setup setting statics) h.keeps.grounded.limits few in
       let b = a.low in
@@ -153,16 +153,16 @@ module _ (setting : Setting) (statics : List ℕ) (few : length statics ≤ MOST
   equation : (o : BinOp) → is_comparison o ≡ true → is_equation o ≡ true
   equation o e = e
 
-  operands : (o : BinOp) (a b : Kind) (x y : Value) → operands_fit T.table o a b ≡ true → fits P st.store x a ≡ true
-      → fits P st.store y b ≡ true
+  operands : (o : BinOp) (a b : Kind) (x y : Value) → operands_fit T.table o a b ≡ true → is_of_kind P st.store x a ≡ true
+      → is_of_kind P st.store y b ≡ true
       → (is_int a ≡ false → IsRef (setup setting statics) (extra u []) S s.class st t0 h.keeps.main_unheld x)
       → (is_int b ≡ false → IsRef (setup setting statics) (extra u []) S s.class st t0 h.keeps.main_unheld y)
       → AreOperands A L o x y
   operands o a b x y q f g p r = by (is_comparison o) refl q
     where
       ints : is_int a ≡ true → is_int b ≡ true → AreOperands A L o x y
-      ints i j = both_words (int_shown (Ok x) (subst (λ c. fits P st.store x c ≡ true) (int_kind a i) f))
-          (int_shown (Ok y) (subst (λ c. fits P st.store y c ≡ true) (int_kind b j) g))
+      ints i j = both_words (int_shown (Ok x) (subst (λ c. is_of_kind P st.store x c ≡ true) (int_kind a i) f))
+          (int_shown (Ok y) (subst (λ c. is_of_kind P st.store y c ≡ true) (int_kind b j) g))
 
       test_of : (m n : ℕ) → m ≡ n → nat_eq m n ≡ true
       test_of m n e = grind (arith, nat_tests, e)
@@ -229,7 +229,7 @@ module _ (setting : Setting) (statics : List ℕ) (few : length statics ≤ MOST
   refers e k v q none r = value_refers (setup setting statics) classes (extra u []) S S s.class h.keeps.class_inside
       (same_means S) st t0 h.keeps.main_unheld e k v q none r
 
-  pub means : (e : Expression) (k : Kind) → HasWords e → type_of T S e ≡ Ok k → Means A L P st (spot_in P s) B cells e
+  pub means : (e : Expression) (k : Kind) → HasWords e → type_of T S e ≡ Ok k → Means A L P st (visible_spot P s) B cells e
   means (Number at word) k w q = tt
   means (Null at) k w q = tt
   means (Variable name) k w q = name_word setting statics classes s u st cells h name k q
@@ -255,7 +255,7 @@ module _ (setting : Setting) (statics : List ℕ) (few : length statics ≤ MOST
       both p (Ok x) (Ok y) e g a b = operands o p.first p.second x y p.fit a b
           (λ i. refers left p.first x p.first_is i e) (λ j. refers right p.second y p.second_is j g)
 
-  pub sees : (e : Expression) (k : Kind) → HasWords e → type_of T S e ≡ Ok k → Sees (spot_in P s) B low cells e
+  pub sees : (e : Expression) (k : Kind) → HasWords e → type_of T S e ≡ Ok k → Sees (visible_spot P s) B low cells e
   sees (Number at word) k w q = w
   sees (Null at) k w q = tt
   sees (Variable name) k w q = name_low setting statics classes s u st cells h name k q
@@ -271,7 +271,7 @@ module _ (setting : Setting) (statics : List ℕ) (few : length statics ≤ MOST
 
   -- a place
   pub means_place : (target : Lvalue) (k : Kind) → PlaceHasWords target → place_type T S target ≡ Ok k
-      → MeansPlace A L P st (spot_in P s) B cells target
+      → MeansPlace A L P st (visible_spot P s) B cells target
   means_place (Whole name) k w q = name_place setting statics classes s u st cells h name k q
   means_place (Item name index) k w q =
       let p = element_parts name index k q in (
@@ -282,6 +282,6 @@ module _ (setting : Setting) (statics : List ℕ) (few : length statics ≤ MOST
       )
 
   pub sees_place : (target : Lvalue) (k : Kind) → PlaceHasWords target → place_type T S target ≡ Ok k
-      → Sees (spot_in P s) B low cells (lvalue_read target)
+      → Sees (visible_spot P s) B low cells (lvalue_read target)
   sees_place (Whole name) k w q = name_low setting statics classes s u st cells h name k q
   sees_place (Item name index) k w q = sees (Element name index) k w q

@@ -15,7 +15,7 @@ use Rattle.refine_calls.specs.roopl_semantics.Layout.{no_placing}
 use Rattle.refine_calls.specs.meaning_sound.Sound.{cell_kind}
 use Rattle.refine_calls.proofs.meaning_sound_laws.Classes.{KnowsClasses}
 use Rattle.refine_calls.proofs.meaning_sound_laws.Values.{cell_found, place_fits}
-use Rattle.refine_calls.specs.refine_form.Form.{Scope, Open, registers}
+use Rattle.refine_calls.specs.refine_form.Form.{Scope, HasOpenFrame, registers}
 use Rattle.refine_calls.specs.refine_form.Frames.{Under, address_of, value_word}
 use Rattle.refine_calls.specs.refine_form.Stands.{shape_of, extra, Reads}
 use Rattle.refine_calls.specs.refine_form.Worlds.{Place, world_of}
@@ -40,7 +40,7 @@ module _ (p : Place) (classes : KnowsClasses p.setting.program) (s : Scope) (u :
   L st i = frame_address p.setting p.statics u + (FIRST_VARIABLE + (length st.frame - 1 - i))
 
   abbrev pub R : State → Memory → Type 0
-  R = Open (world_of p) s u
+  R = HasOpenFrame (world_of p) s u
 
   pub known : (st : State) (m : Memory) → R st m → m ≡ record
       { regs = registers 0 u.object (frame_address p.setting p.statics u) 0 0 0 0 0; cells = m.cells }

@@ -14,7 +14,7 @@ use Rattle.refine_calls.specs.roopl_semantics.Value.{Cell, read, written, cell_o
 use Rattle.refine_calls.specs.roopl_semantics.Elements.{index_elements, own_element, share_array}
 use Rattle.refine_calls.specs.roopl_semantics.Laws.{one_if_name}
 use Rattle.refine_calls.specs.roopl_semantics.Execution.{exec}
-use Rattle.refine_calls.specs.meaning_sound.Sound.{cell_kind, fits, count_named, held}
+use Rattle.refine_calls.specs.meaning_sound.Sound.{cell_kind, is_of_kind, count_named, held}
 use Rattle.refine_calls.proofs.meaning_sound_laws.Classes.{KnowsClasses}
 use Rattle.refine_calls.proofs.meaning_sound_laws.Lists.{fits_kept}
 use Rattle.refine_calls.proofs.meaning_sound_laws.Cells.{read_fits, counts_written, heads_written, kind_stays}
@@ -30,11 +30,11 @@ use Rattle.expr_uncompute.specs.Code.{place_words}
 use Rattle.expr_uncompute.specs.register_expressions.Number.{lvalue_read, index_of}
 use Rattle.expr_uncompute.specs.register_expressions.Laws.{bases_of}
 use Rattle.expr_uncompute.specs.Laws.{swapped_at}
-use Rattle.expr_uncompute.specs.Promises.{CanRun, SwapLaw}
+use Rattle.expr_uncompute.specs.Promises.{CanEvaluate, SwapLaw}
 use Rattle.expr_uncompute.specs.Means.{cell_address, MeansPlace, TellsShares}
 use Rattle.expr_uncompute.proofs.StatementRows.{swap_does}
 use Rattle.expr_uncompute.proofs.Transport.{SwapNeeds, swap_facts}
-use Rattle.refine_expressions.specs.Typing.{IsPassed, typing_in, spot_in, free_in}
+use Rattle.refine_expressions.specs.Typing.{IsPassed, typing_in, visible_spot, free_in_scope}
 use Rattle.refine_expressions.proofs.ExpressionsRead.{means_place, sees_place}
 use Rattle.refine_expressions.proofs.ValuesFit.{ready, some_counts}
 use Rattle.refine_expressions.proofs.ArraysTold.{tells_shares, index_typed}
@@ -86,7 +86,7 @@ module _ (p : Place) (few : length p.statics ≤ MOST_STATICS) (classes : KnowsC
       small c has = subst (λ z. z < 2 ^ 32) (cell_holds p classes s u st m.cells h c k has)
           (h.words (cell_address (Ad st) (Sl st) c))
 
-      fit : (c : Cell) → cell_kind P (shape_of P s) st.store c ≡ Some k → fits P st.store (read st c) k ≡ true
+      fit : (c : Cell) → cell_kind P (shape_of P s) st.store c ≡ Some k → is_of_kind P st.store (read st c) k ≡ true
       fit c has = read_fits p.setting (extra u []) (shape_of P s) s.class st c k
           (typed p.setting p.statics s u [] st m.cells h) has
 
@@ -105,7 +105,7 @@ module _ (p : Place) (few : length p.statics ≤ MOST_STATICS) (classes : KnowsC
       has_mid : cell_kind P (shape_of P s) mid.store y ≡ Some k
       has_mid = kind_stays p.setting (extra u []) (shape_of P s) s.class st x vy y ∙ has_y
 
-      fit_mid : fits P mid.store vx k ≡ true
+      fit_mid : is_of_kind P mid.store vx k ≡ true
       fit_mid = fits_kept P st.store mid.store vx k (λ n q l. heads_written p.setting (extra u []) (shape_of P s)
           s.class
           st x vy n) (fit x has_x)
@@ -181,10 +181,10 @@ module _ (p : Place) (few : length p.statics ≤ MOST_STATICS) (classes : KnowsC
   module _ (at : ℕ) (left right : Lvalue) (ok : IsPassed p.setting.program s (Swap at left right)
       (place_words left + place_words right)) where
     abbrev spot : List ℕ → Rattle.refine_calls.specs.refine_form.declared.spot.Spot.Spot
-    spot = spot_in P s
+    spot = visible_spot P s
 
     abbrev free : ℕ
-    free = free_in P s
+    free = free_in_scope P s
 
     abbrev Apart : State → Type 0
     Apart st = share_array P st (own_element left ++ own_element right) (index_elements left ++ index_elements right)
@@ -197,8 +197,8 @@ module _ (p : Place) (few : length p.statics ≤ MOST_STATICS) (classes : KnowsC
       rules : SwapTyped p.setting classes (context p classes s u st m.cells g) left right
       rules = swap_typed p.setting classes (context p classes s u st m.cells g) at left right ok.rules
 
-      can : CanRun spot free (place_words left + place_words right) (lvalue_read left) (lvalue_read right) m
-      can = subst (λ z. CanRun spot free (place_words left + place_words right) (lvalue_read left) (lvalue_read right) z)
+      can : CanEvaluate spot free (place_words left + place_words right) (lvalue_read left) (lvalue_read right) m
+      can = subst (λ z. CanEvaluate spot free (place_words left + place_words right) (lvalue_read left) (lvalue_read right) z)
           (sym (known p classes s u st m r)) (record {
             ready = ready p few classes s u st m.cells g (place_words left + place_words right) 0 0 ok.room;
             first = sees_place p.setting p.statics few classes s u st m.cells g left rules.kind ok.has_words.0
@@ -258,11 +258,11 @@ module _ (p : Place) (few : length p.statics ≤ MOST_STATICS) (classes : KnowsC
 pub swap_fits : (p : Place) → length p.statics ≤ MOST_STATICS → KnowsClasses p.setting.program
     → (s : Scope) (at : ℕ) (left right : Lvalue) → IsPassed p.setting.program s (Swap at left right)
     (place_words left + place_words right)
-    → (q : List Symbol) → SwapLaw (spot_in p.setting.program s) (free_in p.setting.program s) left right q
+    → (q : List Symbol) → SwapLaw (visible_spot p.setting.program s) (free_in_scope p.setting.program s) left right q
     → StmtLaw (world_of p) s (Swap at left right) q
 swap_fits p few classes s at left right ok q law n owes d u =
-    let spot = spot_in p.setting.program s in
-    let free = free_in p.setting.program s in
+    let spot = visible_spot p.setting.program s in
+    let free = free_in_scope p.setting.program s in
     let facts = swap_facts p.setting (A p classes s u) (L p classes s u) (R p classes s u) spot free left right
     (needs p few classes s u at left right ok) in
     swap_does p.setting (A p classes s u) (L p classes s u) (R p classes s u) spot free (rates_of p.setting)

@@ -28,11 +28,11 @@ use Rattle.expr_uncompute.specs.register_expressions.Code.{words}
 use Rattle.expr_uncompute.specs.Code.{place_words}
 use Rattle.expr_uncompute.specs.register_expressions.Number.{lvalue_read, index_of}
 use Rattle.expr_uncompute.specs.register_expressions.Laws.{bases_of}
-use Rattle.expr_uncompute.specs.Promises.{CanRun, UpdateLaw}
+use Rattle.expr_uncompute.specs.Promises.{CanEvaluate, UpdateLaw}
 use Rattle.expr_uncompute.specs.Means.{shown, cell_address, Means, MeansPlace, TellsShares}
 use Rattle.expr_uncompute.proofs.StatementRows.{update_does}
 use Rattle.expr_uncompute.proofs.Transport.{UpdateNeeds, update_facts}
-use Rattle.refine_expressions.specs.Typing.{IsPassed, spot_in, free_in}
+use Rattle.refine_expressions.specs.Typing.{IsPassed, visible_spot, free_in_scope}
 use Rattle.refine_expressions.proofs.ExpressionsRead.{means, sees, means_place, sees_place, value_is}
 use Rattle.refine_expressions.proofs.ValuesFit.{ready, some_counts}
 use Rattle.refine_expressions.proofs.ArraysTold.{tells_shares, index_typed}
@@ -49,10 +49,10 @@ module _ (p : Place) (few : length p.statics ≤ MOST_STATICS) (classes : KnowsC
   P = p.setting.program
 
   abbrev spot : List ℕ → Rattle.refine_calls.specs.refine_form.declared.spot.Spot.Spot
-  spot = spot_in P s
+  spot = visible_spot P s
 
   abbrev free : ℕ
-  free = free_in P s
+  free = free_in_scope P s
 
   abbrev Ad : State → ℕ → ℕ
   Ad = A p classes s u
@@ -73,8 +73,8 @@ module _ (p : Place) (few : length p.statics ≤ MOST_STATICS) (classes : KnowsC
     rules : UpdateTyped p.setting classes (context p classes s u st m.cells h) target e
     rules = update_typed p.setting classes (context p classes s u st m.cells h) at op target e ok.rules
 
-    can : CanRun spot free (place_words target + words e) (lvalue_read target) e m
-    can = subst (λ z. CanRun spot free (place_words target + words e) (lvalue_read target) e z)
+    can : CanEvaluate spot free (place_words target + words e) (lvalue_read target) e m
+    can = subst (λ z. CanEvaluate spot free (place_words target + words e) (lvalue_read target) e z)
         (sym (known p classes s u st m r)) (record {
           ready = ready p few classes s u st m.cells h (place_words target + words e) 0 0 ok.room;
           first = sees_place p.setting p.statics few classes s u st m.cells h target kind.Int ok.has_words.0
@@ -185,11 +185,11 @@ module _ (p : Place) (few : length p.statics ≤ MOST_STATICS) (classes : KnowsC
 pub update_fits : (p : Place) → length p.statics ≤ MOST_STATICS → KnowsClasses p.setting.program
     → (s : Scope) (at : ℕ) (op : UpdateOp) (target : Lvalue) (e : Expression)
     → IsPassed p.setting.program s (Update at op target e) (place_words target + words e)
-    → (q : List Symbol) → UpdateLaw (spot_in p.setting.program s) (free_in p.setting.program s) op target e q
+    → (q : List Symbol) → UpdateLaw (visible_spot p.setting.program s) (free_in_scope p.setting.program s) op target e q
     → StmtLaw (world_of p) s (Update at op target e) q
 update_fits p few classes s at op target e ok q law n owes d u =
-    let spot = spot_in p.setting.program s in
-    let free = free_in p.setting.program s in
+    let spot = visible_spot p.setting.program s in
+    let free = free_in_scope p.setting.program s in
     let facts = update_facts p.setting (A p classes s u) (L p classes s u) (R p classes s u) spot free op target e
     (needs p few classes s u at op target e ok) in
     update_does p.setting (A p classes s u) (L p classes s u) (R p classes s u) spot free (rates_of p.setting)

@@ -15,7 +15,7 @@ use Rattle.refine_calls.specs.pisa_isa.Loaded.{statics_at}
 use Rattle.refine_calls.specs.pisa_isa.Machine.{Memory}
 use Rattle.refine_calls.specs.pisa_isa.declared.image.TheConstants.{MOST_STATICS}
 use Rattle.refine_calls.specs.paired_code.declared.part.Symbol.{Symbol}
-use Rattle.refine_calls.specs.paired_code.Layout.{xor}
+use Rattle.refine_calls.specs.paired_code.Layout.{bool_xor}
 use Rattle.refine_calls.specs.paired_code.Does.{Fine, Fault}
 use Rattle.refine_calls.proofs.paired_code_laws.Laws.{will_more}
 use Rattle.refine_calls.specs.roopl_semantics.Run.{after_cost, given, give, ◌>>=◌}
@@ -24,7 +24,7 @@ use Rattle.refine_calls.specs.roopl_semantics.Store.{Value, Word, Nil, Name, Sta
 use Rattle.refine_calls.specs.roopl_semantics.Value.{value}
 use Rattle.refine_calls.specs.roopl_semantics.Layout.{no_placing}
 use Rattle.refine_calls.specs.roopl_semantics.Execution.{holds}
-use Rattle.refine_calls.specs.meaning_sound.Sound.{fits}
+use Rattle.refine_calls.specs.meaning_sound.Sound.{is_of_kind}
 use Rattle.refine_calls.proofs.meaning_sound_laws.Classes.{KnowsClasses}
 use Rattle.refine_calls.proofs.meaning_sound_laws.Stores.{other_number}
 use Rattle.refine_calls.proofs.meaning_sound_laws.Values.{IsInt as IsWord, int_value, value_found}
@@ -34,13 +34,13 @@ use Rattle.expr_uncompute.specs.register_expressions.Laws.{Temporary, Ready}
 use Rattle.expr_uncompute.specs.Means.{shown, IsInt}
 use Rattle.expr_uncompute.specs.Promises as code
 use Rattle.expr_uncompute.proofs.Meeting.{told_value, told_test, value_meets, test_meets}
-use Rattle.refine_calls.specs.refine_form.Form.{World, Scope, registers, bit, told, flagged, holding, TestLaw, ValueLaw}
+use Rattle.refine_calls.specs.refine_form.Form.{World, Scope, registers, bit, run_result, flagged, holding, TestLaw, ValueLaw}
 use Rattle.refine_calls.specs.refine_form.Form.{test_rates}
 use Rattle.refine_calls.specs.refine_form.Frames.{Under, base}
 use Rattle.refine_calls.specs.refine_form.Stands.{setup, Reads}
 use Rattle.refine_calls.specs.refine_form.Worlds.{Place, world_of}
 use Rattle.refine_calls.proofs.refine_form_laws.Rules.{meets_as, meets_told, meets_slack}
-use Rattle.refine_expressions.specs.Typing.{IsTyped, spot_in, free_in}
+use Rattle.refine_expressions.specs.Typing.{IsTyped, visible_spot, free_in_scope}
 use Rattle.refine_calls.proofs.MovesFit.{frame_address}
 use Rattle.refine_expressions.proofs.FrameReads.{free_words, all_cells, in_cells}
 use Rattle.refine_expressions.proofs.WordsRead.{names_at, slots_at}
@@ -73,15 +73,15 @@ clear link object frame flag place r t = ⊎_elim low high t
         get_or-append_right front (replicate 19 0) 13 r 0 refl (omega (arith, a))
         ∙ get_or-replicate 19 (r - 13) 0 0 (omega (arith, a, b))
 
-told_evaluated : (c : ℕ) (r : Result Value ℕ) → told_value c r ≡ told (after_cost c (given r))
+told_evaluated : (c : ℕ) (r : Result Value ℕ) → told_value c r ≡ run_result (after_cost c (given r))
 told_evaluated c (Ok v) = ap (Fine v) (let e : c ≡ c + 0 = omega arith in e)
 told_evaluated c (Err f) = ap (Fault f) (let e : c ≡ c + 0 = omega arith in e)
 
-told_tested : (c : ℕ) (r : Result Value ℕ) → told_test c r ≡ told (after_cost c (given r) >>= λ v. give (holds v))
+told_tested : (c : ℕ) (r : Result Value ℕ) → told_test c r ≡ run_result (after_cost c (given r) >>= λ v. give (holds v))
 told_tested c (Ok v) = ap (Fine (holds v)) (let e : c ≡ c + 0 + 0 = omega arith in e)
 told_tested c (Err f) = ap (Fault f) (let e : c ≡ c + 0 = omega arith in e)
 
-truth_xor : (v t : Bool) → bit_xor (bit v) (truth_word t) ≡ bit (xor v t)
+truth_xor : (v t : Bool) → bit_xor (bit v) (truth_word t) ≡ bit (bool_xor v t)
 truth_xor false false = refl
 truth_xor false true = refl
 truth_xor true false = refl
@@ -118,8 +118,8 @@ module _ (p : Place) (few : length p.statics ≤ MOST_STATICS) (classes : KnowsC
     abbrev L : ℕ → ℕ
     L = slots_at p.setting p.statics classes s u st cells h
 
-    pub ready : (n flag place : ℕ) → free_in P s + n ≤ FRAME_WORDS
-        → Ready (free_in P s) n (record {
+    pub ready : (n flag place : ℕ) → free_in_scope P s + n ≤ FRAME_WORDS
+        → Ready (free_in_scope P s) n (record {
           regs = registers 0 u.object (frame_address p.setting p.statics u) 0 0 0 flag
               place;
           cells = cells;
@@ -144,7 +144,7 @@ module _ (p : Place) (few : length p.statics ≤ MOST_STATICS) (classes : KnowsC
     word_told e k ok Nil q = refl
     word_told e k ok (Name n) q = by (is_int k) refl
       where
-        fit : fits P st.store (Name n) k ≡ true
+        fit : is_of_kind P st.store (Name n) k ≡ true
         fit = value_found P st.store k (value P st e) (Name n)
             (value_is p.setting p.statics few classes s u st cells h e k ok.has_words ok.typed) q
 
@@ -153,7 +153,7 @@ module _ (p : Place) (few : length p.statics ≤ MOST_STATICS) (classes : KnowsC
 
         by : (b : Bool) → is_int k ≡ b → shown A L (Name n) ≡ w.word_of u st (Name n)
         by true i = absurd (no_word (int_value P st.store (Name n)
-            (subst (λ x. fits P st.store (Name n) x ≡ true) (int_kind k i) fit)))
+            (subst (λ x. is_of_kind P st.store (Name n) x ≡ true) (int_kind k i) fit)))
         by false i =
             let r = refers p.setting p.statics few classes s u st cells h e k (Name n) ok.typed i q in
             ap (λ t. if t then statics_at else base p.setting p.statics + block_of
@@ -162,7 +162,7 @@ module _ (p : Place) (few : length p.statics ≤ MOST_STATICS) (classes : KnowsC
 
   -- a condition
   pub test_fits : (s : Scope) (e : Expression) → IsTyped P s e kind.Int → (q : List Symbol)
-      → code.TestLaw (spot_in P s) (free_in P s) 11 e q → TestLaw (world_of p) s e q
+      → code.ConditionLaw (visible_spot P s) (free_in_scope P s) 11 e q → TestLaw (world_of p) s e q
   test_fits s e ok q law n d u v st cells h =
       let m : Memory = flagged w u v cells in
       let int : IsInt (A s u st cells h) (L s u st cells h) (value P st e) =
@@ -170,7 +170,7 @@ module _ (p : Place) (few : length p.statics ≤ MOST_STATICS) (classes : KnowsC
       (value_is p.setting p.statics few classes s u st cells h e kind.Int ok.has_words ok.typed) in
       will_more p.im q d m _ _ (λ o k. meets_told _ _ (told_tested (nodes e) (value P st e))
       (meets_slack 50 (omega arith) (meets_as (λ t m1 c z r. r ∙ ap (flag_memory u cells) (truth_xor v t)) k)))
-      (test_meets (A s u st cells h) (L s u st cells h) P (spot_in P s) (free_in P s) (test_rates w) (many_counts _)
+      (test_meets (A s u st cells h) (L s u st cells h) P (visible_spot P s) (free_in_scope P s) (test_rates w) (many_counts _)
       (omega arith) 11 e q p.im d m st
       (ready s u st cells h (words e) (bit v) 0 ok.room)
       (sees p.setting p.statics few classes s u st cells h e kind.Int ok.has_words ok.typed)
@@ -178,14 +178,14 @@ module _ (p : Place) (few : length p.statics ≤ MOST_STATICS) (classes : KnowsC
 
   -- a value
   pub value_fits_law : (s : Scope) (e : Expression) (k : Kind) → IsTyped P s e k → (q : List Symbol)
-      → code.ValueLaw (spot_in P s) (free_in P s) 12 e q → ValueLaw (world_of p) s e q
+      → code.ExpressionLaw (visible_spot P s) (free_in_scope P s) 12 e q → ValueLaw (world_of p) s e q
   value_fits_law s e k ok q law n d u x st cells h =
       let m : Memory = holding w u x cells in
       will_more p.im q d m _ _ (λ o g. meets_told _ _ (told_evaluated (nodes e) (value P st e))
       (meets_slack 50 (omega arith) (meets_as (λ v m1 c z r. r
       ∙ ap (λ y. word_memory u cells (bit_xor x y)) (word_told s u st cells h e k ok v
       (value_of_told (nodes e) (value P st e) v c z))) g)))
-      (value_meets (A s u st cells h) (L s u st cells h) P (spot_in P s) (free_in P s) (test_rates w) (many_counts _)
+      (value_meets (A s u st cells h) (L s u st cells h) P (visible_spot P s) (free_in_scope P s) (test_rates w) (many_counts _)
       (omega arith) 12 e q p.im d m st
       (ready s u st cells h (words e) 0 x ok.room)
       (sees p.setting p.statics few classes s u st cells h e k ok.has_words ok.typed)

@@ -23,7 +23,7 @@ use Rattle.refine_calls.specs.roopl_semantics.Store.{object_at}
 use Rattle.refine_calls.specs.roopl_semantics.Value.{Cell, Slot, Part, cell_named, slot_of, slot_or_field, variable_value, read}
 use Rattle.refine_calls.specs.roopl_semantics.Layout.{head_word, no_placing}
 use Rattle.refine_calls.specs.roopl_semantics.Execution.{Setting}
-use Rattle.refine_calls.specs.meaning_sound.Sound.{head_of, head_named, head_fits, named_fits, fits, cell_kinds, cell_kind}
+use Rattle.refine_calls.specs.meaning_sound.Sound.{head_of, head_named, head_fits, named_fits, is_of_kind, cell_kinds, cell_kind}
 use Rattle.refine_calls.specs.meaning_sound.Sound.{part_kind}
 use Rattle.refine_calls.proofs.meaning_sound_laws.Classes.{KnowsClasses}
 use Rattle.refine_calls.proofs.meaning_sound_laws.Lists.{all_length}
@@ -40,9 +40,9 @@ use Rattle.refine_calls.specs.refine_form.declared.spot.Spot.TheVariants.{Field,
 use Rattle.refine_calls.specs.refine_form.Form.{Scope}
 use Rattle.refine_calls.specs.refine_form.Frames.{Under, base, stack_base, address_of, value_word, stack_words}
 use Rattle.refine_calls.specs.refine_form.Stands.{shape_of, extra, setup, Reads}
-use Rattle.expr_uncompute.specs.register_expressions.Number.{Bases, address_of as spot_address}
+use Rattle.expr_uncompute.specs.register_expressions.Number.{Bases, spot_address as spot_address}
 use Rattle.expr_uncompute.specs.Means.{shown, cell_address}
-use Rattle.refine_expressions.specs.Typing.{spot_in, free_in}
+use Rattle.refine_expressions.specs.Typing.{visible_spot, free_in_scope}
 use Rattle.refine_expressions.proofs.Names.{var_name, word_at, word_is}
 use Rattle.refine_calls.proofs.Bridge.{shape_names, as_many_vars, typed}
 use Rattle.refine_calls.proofs.MovesFit.{frame_address, place_of}
@@ -113,7 +113,7 @@ module _ (setting : Setting) (statics : List ℕ) (classes : KnowsClasses settin
     abbrev spot_by : Option ℕ → Option ℕ → Spot
     spot_by word field = unwrap_or (option_or (option_map Frame word) (option_map Field field)) (Field 0)
 
-    pub at_spot : spot_address bases (spot_in program s name.text)
+    pub at_spot : spot_address bases (visible_spot program s name.text)
         ≡ place_of setting statics at u st (cell_named program st name.text)
     at_spot = by (slot_of st.frame name.text) refl
       where
@@ -139,7 +139,7 @@ module _ (setting : Setting) (statics : List ℕ) (classes : KnowsClasses settin
                 ∙ ap (option_map (kind_at (table_of program) s.class)) is
 
         by : (r : Option ℕ) → slot_of st.frame name.text ≡ r
-            → spot_address bases (spot_in program s name.text)
+            → spot_address bases (visible_spot program s name.text)
             ≡ place_of setting statics at u st (slot_or_field program st name.text (slot_of st.frame name.text))
         by (Some i) e =
             let n = as_many_vars setting statics s u [] st cells h in
@@ -155,7 +155,7 @@ module _ (setting : Setting) (statics : List ℕ) (classes : KnowsClasses settin
             ∙ ap (λ r. place_of setting statics at u st (slot_or_field program st name.text r)) (sym e)
 
     -- it is below the free words
-    pub name_low : spot_address bases (spot_in program s name.text) < frame_address setting statics u + free_in program
+    pub name_low : spot_address bases (visible_spot program s name.text) < frame_address setting statics u + free_in_scope program
         s
     name_low =
         let l = cell_low setting statics s u st cells h (cell_named program st name.text) k named_has in
@@ -163,12 +163,12 @@ module _ (setting : Setting) (statics : List ℕ) (classes : KnowsClasses settin
         omega (arith, e, l)
 
     -- its word is its value's
-    pub name_word : slice_index cells (spot_address bases (spot_in program s name.text))
+    pub name_word : slice_index cells (spot_address bases (visible_spot program s name.text))
         ≡ shown names_at slots_at (variable_value program st name.text)
     name_word = ap (slice_index cells) at_spot ∙ cell_at_word (cell_named program st name.text) k named_has
 
     -- its address is that of its cell
-    pub name_place : spot_address bases (spot_in program s name.text)
+    pub name_place : spot_address bases (visible_spot program s name.text)
         ≡ cell_address names_at slots_at (cell_named program st name.text)
     name_place = at_spot ∙ by (cell_named program st name.text)
       where
@@ -197,8 +197,8 @@ module _ (setting : Setting) (statics : List ℕ) (classes : KnowsClasses settin
       let o = object_at st.store n in
       let live = live_object st.store n r.live in
       let head_is : head_named st.store n ≡ Some o.head = ap (option_map head_of) live in
-      let fit : fits program st.store (Name n) array ≡ true =
-      subst (λ v. fits program st.store v array ≡ true) reads
+      let fit : is_of_kind program st.store (Name n) array ≡ true =
+      subst (λ v. is_of_kind program st.store v array ≡ true) reads
       (read_fits setting (extra u []) shape s.class st c array t has) in
       let headed : head_fits program array o.head ≡ true = ap (named_fits program array) (sym head_is) ∙ fit in
       let is = array_head program array k o.head e headed in

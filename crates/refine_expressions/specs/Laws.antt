@@ -13,7 +13,7 @@ use Rattle.expr_uncompute.specs.Promises as code
 use Rattle.refine_calls.specs.refine_form.Form.{Scope, TestLaw, ValueLaw, StmtLaw}
 use Rattle.refine_calls.specs.refine_form.Worlds.{Place, world_of}
 use Rattle.refine_calls.specs.code_conventions.declared.registers.TheConstants.{FLAG, VALUE}
-use Rattle.refine_expressions.specs.Typing.{IsTyped, IsPassed, spot_in, free_in}
+use Rattle.refine_expressions.specs.Typing.{IsTyped, IsPassed, visible_spot, free_in_scope}
 use Rattle.refine_calls.specs.pisa_isa.declared.image.TheConstants.{MOST_STATICS}
 
 -- an accepted program, and not too many static cells
@@ -28,30 +28,28 @@ TestsAreTold =
     (place : Place) → IsLaidOut place → (s : Scope) (e : Expression)
     → IsTyped place.setting.program s e kind.Int
     → (p : List Symbol)
-    → code.TestLaw (spot_in place.setting.program s) (free_in place.setting.program s) FLAG e p
+    → code.ConditionLaw (visible_spot place.setting.program s) (free_in_scope place.setting.program s) FLAG e p
     → TestLaw (world_of place) s e p
 
 -- code that xors an expression's number into the value's register gives the word of the source's
--- value,
--- of any type
+-- value, of any type
 abbrev pub ValuesAreTold : Type 0
 ValuesAreTold =
     (place : Place) → IsLaidOut place → (s : Scope) (e : Expression) (k : Kind)
     → IsTyped place.setting.program s e k
     → (p : List Symbol)
-    → code.ValueLaw (spot_in place.setting.program s) (free_in place.setting.program s) VALUE e p
+    → code.ExpressionLaw (visible_spot place.setting.program s) (free_in_scope place.setting.program s) VALUE e p
     → ValueLaw (world_of place) s e p
 
 -- code that updates a place's word does what the source says of the update, back what it says of
--- its
--- inverse
+-- its inverse
 abbrev pub UpdatesAreTold : Type 0
 UpdatesAreTold =
     (place : Place) → IsLaidOut place
     → (s : Scope) (at : ℕ) (op : UpdateOp) (target : Lvalue) (e : Expression)
     → IsPassed place.setting.program s (Update at op target e) (place_words target + words e)
     → (p : List Symbol)
-    → code.UpdateLaw (spot_in place.setting.program s) (free_in place.setting.program s) op target e
+    → code.UpdateLaw (visible_spot place.setting.program s) (free_in_scope place.setting.program s) op target e
     p
     → StmtLaw (world_of place) s (Update at op target e) p
 
@@ -61,5 +59,5 @@ SwapsAreTold =
     (place : Place) → IsLaidOut place → (s : Scope) (at : ℕ) (left right : Lvalue)
     → IsPassed place.setting.program s (Swap at left right) (place_words left + place_words right)
     → (p : List Symbol)
-    → code.SwapLaw (spot_in place.setting.program s) (free_in place.setting.program s) left right p
+    → code.SwapLaw (visible_spot place.setting.program s) (free_in_scope place.setting.program s) left right p
     → StmtLaw (world_of place) s (Swap at left right) p

@@ -6,7 +6,7 @@ use Rattle.paired_code.specs.declared.part.Symbol.TheVariants.{Own}
 use Rattle.refine_frame.specs.pisa_isa.declared.notes.Mark.{Mark}
 use Rattle.paired_code.specs.Layout.{between, fork}
 use Rattle.paired_code.specs.Code.{Code, moved_on, shift, seq_code, branch_code, loop_code}
-use Rattle.refine_form.specs.Held.{Holds, HoldsBoth}
+use Rattle.refine_form.specs.Held.{HoldsCode, HoldsBoth}
 
 abbrev mark : ℕ → ℕ → ℕ → Mark
 mark a b at = record { first = a; end = b; at = at }
@@ -32,10 +32,10 @@ shift_shift n m (k ∷ ks) =
     ∙ ap (λ x. mark (n + m + k.first) x k.at ∷ shift n (shift m ks)) b
     ∙ ap (λ z. moved_on (n + m) k ∷ z) (shift_shift n m ks)
 
-pub holds_itself : (a : Code) → Holds a a
+pub holds_itself : (a : Code) → HoldsCode a a
 holds_itself a = record { before = []; after = []; cells = sym (append-nil a.cells); marks = sym (shift_zero a.marks) }
 
-pub holds_in : (a b c : Code) → Holds a b → Holds b c → Holds a c
+pub holds_in : (a b c : Code) → HoldsCode a b → HoldsCode b c → HoldsCode a c
 holds_in a b c h h2 = record {
   before = h2.before ++ h.before;
   after = h.after ++ h2.after;
@@ -44,7 +44,7 @@ holds_in a b c h h2 = record {
       ∙ ap (λ n. shift n a.marks) (sym (length-append h2.before h.before));
 }
 
-pub holds_left : (a b : Code) → b.marks ≡ [] → Holds a (seq_code a b)
+pub holds_left : (a b : Code) → b.marks ≡ [] → HoldsCode a (seq_code a b)
 holds_left a b e = record {
   before = [];
   after = b.cells;
@@ -52,7 +52,7 @@ holds_left a b e = record {
   marks = ap (λ z. a.marks ++ shift (length a.cells) z) e ∙ append-nil a.marks ∙ sym (shift_zero a.marks);
 }
 
-pub holds_right : (a b : Code) → a.marks ≡ [] → Holds b (seq_code a b)
+pub holds_right : (a b : Code) → a.marks ≡ [] → HoldsCode b (seq_code a b)
 holds_right a b e = record {
   before = a.cells;
   after = [];
@@ -99,7 +99,7 @@ both_loop r head tail =
     }
 
 -- what holds a fragment that holds two
-pub both_in : (a b c d : Code) → HoldsBoth a b c → Holds c d → HoldsBoth a b d
+pub both_in : (a b c d : Code) → HoldsBoth a b c → HoldsCode c d → HoldsBoth a b d
 both_in a b c d h h2 =
     let n = length h2.before in
     let e : n + (length h.before + length a.cells + length h.mid)
@@ -123,7 +123,7 @@ both_in a b c d h h2 =
     }
 
 -- what two fragments hold that are held
-pub both_of : (a a' b b' c : Code) → Holds a a' → Holds b b' → HoldsBoth a' b' c → HoldsBoth a b c
+pub both_of : (a a' b b' c : Code) → HoldsCode a a' → HoldsCode b b' → HoldsBoth a' b' c → HoldsBoth a b c
 both_of a a' b b' c ha hb h =
     let n = length h.before in
     let n2 = length h.before + length a'.cells + length h.mid in
@@ -157,13 +157,13 @@ both_of a a' b b' c ha hb h =
 -- ---- as contracts of code calls say it
 
 -- one after another without marks, and one before
-pub behind_clause : (a b c : Code) → a.marks ≡ [] → Holds c b → Holds c (seq_code a b)
+pub behind_clause : (a b c : Code) → a.marks ≡ [] → HoldsCode c b → HoldsCode c (seq_code a b)
 behind_clause a b c e h = holds_in c b (seq_code a b) h (holds_right a b e)
 
-pub around_clause : (a b c : Code) → a.marks ≡ [] → c.marks ≡ [] → Holds b (seq_code a (seq_code b c))
+pub around_clause : (a b c : Code) → a.marks ≡ [] → c.marks ≡ [] → HoldsCode b (seq_code a (seq_code b c))
 around_clause a b c e1 e2 = behind_clause a (seq_code b c) b e1 (holds_left b c e2)
 
-pub branch_clause : (r : ℕ) (taken part other : Code) → Holds taken part
+pub branch_clause : (r : ℕ) (taken part other : Code) → HoldsCode taken part
     → HoldsBoth other taken (branch_code r part other)
 branch_clause r taken part other h = both_of other other taken part (branch_code r part other) (holds_itself other) h
     (both_branch r part other)

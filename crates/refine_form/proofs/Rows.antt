@@ -6,7 +6,7 @@ use Rattle.refine_frame.specs.pisa_isa.Machine.{Memory}
 use Rattle.paired_code.specs.declared.part.Symbol.{Symbol}
 use Rattle.paired_code.specs.declared.part.Symbol.TheVariants.{Own}
 use Rattle.paired_code.specs.Machine.{Image, is_single}
-use Rattle.paired_code.specs.Pieces.{Done, Will, after}
+use Rattle.paired_code.specs.Pieces.{Done, Will, outcome_after}
 use Rattle.paired_code.specs.Laws.{outcome_of}
 use Rattle.paired_code.specs.Does.{in_order}
 use Rattle.paired_code.proofs.Laws.{will_of, will_more}
@@ -40,7 +40,7 @@ will_singles im true _ _ m _ here = will_of im [] true m (Done m 0) _ (runs_empt
 will_singles im d _ _ m _ (next {c = c} {cs = cs} {k = k} {m1 = m1} {m2 = m2} s w e r) =
     will_next im d (Own c ∷ []) (singles cs) m m1 1 _ (will_of im (Own c ∷ []) d m (outcome_of d c m) _
     (runs_single im c d m s w) e)
-    (will_more im (in_order d (singles cs)) d m1 _ _ (λ o q. ap (after 1) q
+    (will_more im (in_order d (singles cs)) d m1 _ _ (λ o q. ap (outcome_after 1) q
     ∙ (let z : 1 + k ≡ suc k = omega arith in ap (Done m2) z)) (will_singles im d cs k m1 m2 r))
 
 ahead_same : (cs : List Cell) → in_order false (singles cs) ≡ line cs

@@ -9,9 +9,9 @@ use Rattle.refine_frame.specs.inverse_rules.Inverse.{inverse_statement}
 use Rattle.refine_frame.specs.pisa_isa.Machine.{Memory}
 use Rattle.paired_code.specs.declared.part.Symbol.{Symbol}
 use Rattle.paired_code.specs.Machine.{Image}
-use Rattle.paired_code.specs.Layout.{xor}
+use Rattle.paired_code.specs.Layout.{bool_xor}
 use Rattle.paired_code.specs.Pieces.{Will}
-use Rattle.paired_code.specs.Does.{Rates, Told, Fine, Fault, More, Meets, Does}
+use Rattle.paired_code.specs.Does.{Rates, RunResult, Fine, Fault, More, Meets, Does}
 use Rattle.refine_frame.specs.roopl_semantics.Value.{evaluated}
 use Rattle.refine_frame.specs.roopl_semantics.Run.{Run, Done, Fault as FaultRun, More as MoreRun, after_cost}
 use Rattle.refine_frame.specs.roopl_semantics.Run.{◌>>=◌, give}
@@ -21,19 +21,19 @@ use Rattle.refine_frame.specs.roopl_semantics.Execution.{Setting, exec, statemen
 -- ---- what the source says
 
 -- a run of the source, as an outcome of fragments
-abbrev pub told : {A : Type 0} → Run A → Told A
-told (Done a c) = Fine a c
-told (FaultRun w c) = Fault w c
-told MoreRun = More
+abbrev pub run_result : {A : Type 0} → Run A → RunResult A
+run_result (Done a c) = Fine a c
+run_result (FaultRun w c) = Fault w c
+run_result MoreRun = More
 
 -- a statement with the count of 1 that it makes in a block; its blocks run with fuel n
 abbrev pub one : Setting → ℕ → Statement → State → Run State
 one setting n s st = after_cost 1 (statement setting n (exec setting n) s st)
 
 -- the statement, or its inverse if the fragment is run backward
-abbrev pub turned : Bool → Statement → Statement
-turned false s = s
-turned true s = inverse_statement s
+abbrev pub turned_statement : Bool → Statement → Statement
+turned_statement false s = s
+turned_statement true s = inverse_statement s
 
 -- whether an expression is true, with its faults and what it costs
 abbrev pub tested : Setting → Expression → State → Run Bool
@@ -52,7 +52,7 @@ abbrev pub with_var : Scope → Var → Scope
 with_var s var = record s { vars = var ∷ s.vars }
 
 -- the routines of an image that run methods; other routines may be next to them
-pub record Routines : Type 0 where
+pub record MethodRoutines : Type 0 where
   pub count : ℕ
   -- its number among all routines of the image
   pub number : ℕ → ℕ
@@ -79,7 +79,7 @@ pub record World : Type 1 where
   pub setting : Setting
   pub im : Image
   pub rates : Rates
-  pub routines : Routines
+  pub routines : MethodRoutines
   -- what stays while a frame is open: the frames below, its object with its class, its address,
   -- what is saved in it
   pub Under : Type 0
@@ -106,7 +106,7 @@ registers link object frame at at' word flag place =
     ∷ 0 ∷ 0 ∷ 0 ∷ 0 ∷ 0 ∷ 0 ∷ 0 ∷ 0 ∷ 0 ∷ 0 ∷ 0 ∷ 0 ∷ 0 ∷ 0 ∷ 0 ∷ 0 ∷ []
 
 -- between statements: the two addresses are in their registers, all others are 0
-pub record Open (w : World) (s : Scope) (u : w.Under) (st : State) (m : Memory) : Type 0 where
+pub record HasOpenFrame (w : World) (s : Scope) (u : w.Under) (st : State) (m : Memory) : Type 0 where
   pub regs_are : m.regs ≡ registers 0 (w.object_of u) (w.frame_of u) 0 0 0 0 0
   pub open_frame : w.opens s u [] st m.cells
 
@@ -128,7 +128,7 @@ RunsBody w s method p k =
     (d : Bool) (u : w.Under) (link place : ℕ) → w.IsFresh u → 0 < link → link < 2 ^ 32
     → place < 2 ^ 32
     → Does w.im p d (Entered w s u link place) (Entered w s u link place) w.rates k body_slack
-    (λ st. told (exec w.setting k (in_direction d method.body) st))
+    (λ st. run_result (exec w.setting k (in_direction d method.body) st))
 
 -- what is assumed about the routines of the image for less fuel than n
 abbrev pub Owes : World → ℕ → Type 0
@@ -142,15 +142,15 @@ Owes w n =
 abbrev pub StmtLaw : World → Scope → Statement → List Symbol → Type 0
 StmtLaw w s stmt p =
     (n : ℕ) → Owes w (suc n) → (d : Bool) (u : w.Under)
-    → Does w.im p d (Open w s u) (Open w s u)
-    w.rates (suc n) 0 (λ st. told (one w.setting n (turned d stmt) st))
+    → Does w.im p d (HasOpenFrame w s u) (HasOpenFrame w s u)
+    w.rates (suc n) 0 (λ st. run_result (one w.setting n (turned_statement d stmt) st))
 
 -- the code of a block
 abbrev pub BlockLaw : World → Scope → Statements → List Symbol → Type 0
 BlockLaw w s body p =
     (n : ℕ) → Owes w n → (d : Bool) (u : w.Under)
-    → Does w.im p d (Open w s u) (Open w s u) w.rates n 0
-    (λ st. told (exec w.setting n (in_direction d body) st))
+    → Does w.im p d (HasOpenFrame w s u) (HasOpenFrame w s u) w.rates n 0
+    (λ st. run_result (exec w.setting n (in_direction d body) st))
 
 -- the code of a method
 abbrev pub MethodLaw : World → Scope → Procedure → List Symbol → Type 0
@@ -188,8 +188,8 @@ abbrev pub TestLaw : World → Scope → Expression → List Symbol → Type 0
 TestLaw w s e p =
     (n : ℕ) (d : Bool) (u : w.Under) (v : Bool) (st : State) (cells : List ℕ) → w.reads s u st cells
     → Will w.im p d (flagged w u v cells)
-    (Meets (λ t m. m ≡ flagged w u (xor v t) cells) (test_rates w) n test_slack
-    (told (tested w.setting e st)))
+    (Meets (λ t m. m ≡ flagged w u (bool_xor v t) cells) (test_rates w) n test_slack
+    (run_result (tested w.setting e st)))
 
 -- the memory of a current frame with a word in register 12, the one of places, which is free there
 abbrev pub holding : (w : World) → w.Under → ℕ → List ℕ → Memory
@@ -205,4 +205,4 @@ ValueLaw w s e p =
     (n : ℕ) (d : Bool) (u : w.Under) (x : ℕ) (st : State) (cells : List ℕ) → w.reads s u st cells
     → Will w.im p d (holding w u x cells)
     (Meets (λ v m. m ≡ holding w u (bit_xor x (w.word_of u st v)) cells) (test_rates w) n test_slack
-    (told (evaluated w.setting.program e st)))
+    (run_result (evaluated w.setting.program e st)))

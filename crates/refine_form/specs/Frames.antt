@@ -13,7 +13,7 @@ use Rattle.refine_frame.specs.rpp_words.declared.input.TheConstants.{FRAME_WORDS
 use Rattle.refine_frame.specs.roopl_semantics.Store.{Value, Binding, Store, State, main_name, object_at}
 use Rattle.refine_frame.specs.roopl_semantics.Store.{class_of_head}
 use Rattle.refine_frame.specs.roopl_semantics.Value.{Cell, Slot, Part}
-use Rattle.refine_frame.specs.roopl_semantics.Layout.{word_of, first_address, static_words, heap_words}
+use Rattle.refine_frame.specs.roopl_semantics.Layout.{word_of_value, first_address, static_words, heap_words}
 use Rattle.refine_frame.specs.roopl_semantics.Execution.{Setting}
 use Rattle.refine_form.specs.Form.{Scope}
 
@@ -27,7 +27,7 @@ spare_words = replicate (FIRST_VARIABLE - (PLACE_WORD + 1)) 0
 
 -- an active call below: its frame as the source has it, with its object, the object's class and
 -- address, and what is saved in it
-pub record Caller : Type 0 where
+pub record CallerFrame : Type 0 where
   pub scope : Scope
   pub frame : List Binding
   pub self : ℕ
@@ -37,7 +37,7 @@ pub record Caller : Type 0 where
 
 -- what stays while a frame is open; the callers innermost first
 pub record Under : Type 0 where
-  pub callers : List Caller
+  pub callers : List CallerFrame
   pub self : ℕ
   pub class : ℕ
   pub object : ℕ
@@ -55,7 +55,7 @@ module _ (setting : Setting) (statics : List ℕ) where
   address_of at name = if nat_eq name main_name then statics_at else base + block_of at.blocks name
 
   abbrev pub value_word : Placing → Value → ℕ
-  value_word at v = word_of base at.blocks v
+  value_word at v = word_of_value base at.blocks v
 
   -- the words of values, the outermost first
   abbrev pub value_words : Placing → List Value → List ℕ
@@ -74,7 +74,7 @@ module _ (setting : Setting) (statics : List ℕ) where
   frame_words at put_by vs = filled_to FRAME_WORDS (put_by ++ value_words at vs)
 
   -- the frames below, the outermost first
-  abbrev pub callers_words : Placing → List Caller → List ℕ
+  abbrev pub callers_words : Placing → List CallerFrame → List ℕ
   callers_words at [] = []
   callers_words at (c ∷ callers) = callers_words at callers
       ++ frame_words at c.put_by (values_of c.frame)
@@ -105,7 +105,7 @@ module _ (setting : Setting) (statics : List ℕ) where
   StandsAt at store self class object = (class_of_head (object_at store self).head ≡ class)
       × (address_of at self ≡ object)
 
-  abbrev pub CallersStand : Placing → Store → List Caller → Type 0
+  abbrev pub CallersStand : Placing → Store → List CallerFrame → Type 0
   CallersStand at store [] = Unit {0}
   CallersStand at store (c ∷ callers) =
       StandsAt at store c.self c.class c.object × (length c.put_by ≡ FIRST_VARIABLE)

@@ -4,7 +4,7 @@ use Rattle.paired_code.specs.declared.part.Symbol.{Symbol}
 use Rattle.paired_code.specs.Code.{Code, shift}
 
 -- the fragment has the cells of another one in it, with its marks on them, and no others
-pub record Holds (inner p : Code) : Type 0 where
+pub record HoldsCode (inner p : Code) : Type 0 where
   pub before : List Symbol
   pub after : List Symbol
   pub cells : p.cells ≡ before ++ (inner.cells ++ after)

@@ -18,12 +18,12 @@ use Rattle.refine_frame.specs.roopl_semantics.Store.{Value, Name, Head, OfClass,
 use Rattle.refine_frame.specs.roopl_semantics.Store.{Store, State, main_name, object_named}
 use Rattle.refine_frame.specs.roopl_semantics.Execution.{Setting}
 use Rattle.refine_frame.specs.roopl_semantics.Laws.{one_if_name, holders_among}
-use Rattle.refine_frame.specs.meaning_sound.Sound.{named_fits, head_named, count_named, is_live, fits, AllFit}
-use Rattle.refine_frame.specs.meaning_sound.Sound.{local_type, cell_kinds, value_of, held, Descending}
+use Rattle.refine_frame.specs.meaning_sound.Sound.{named_fits, head_named, count_named, is_live, is_of_kind, AllFit}
+use Rattle.refine_frame.specs.meaning_sound.Sound.{local_type, cell_kinds, bound_value, held, Descending}
 use Rattle.refine_frame.specs.meaning_sound.Sound.{IsPlaced, cell_kind}
 use Rattle.refine_frame.specs.Open.{Setup, IsGrounded}
 use Rattle.refine_form.specs.Form.{Scope, Moved}
-use Rattle.refine_form.specs.Frames.{Caller, Under, cell_in, OpenFrame}
+use Rattle.refine_form.specs.Frames.{CallerFrame, Under, cell_in, OpenFrame}
 use Rattle.refine_form.specs.declared.spot.Spot.{Spot}
 use Rattle.refine_form.specs.declared.spot.Spot.TheVariants.{Field, Frame}
 use Rattle.refine_frame.specs.code_conventions.declared.memory.TheConstants.{FIRST_VARIABLE}
@@ -36,10 +36,10 @@ receiver_held name self put_by = if nat_eq (slice_index put_by 1) 0 then 0
     else one_if_name name (Name self)
 
 -- the frames below
-abbrev pub below_held : ℕ → List Caller → ℕ
+abbrev pub below_held : ℕ → List CallerFrame → ℕ
 below_held name [] = 0
 below_held name (c ∷ callers) =
-    holders_among name (map value_of c.frame) +
+    holders_among name (map bound_value c.frame) +
     (receiver_held name c.self c.put_by + below_held name callers)
 
 abbrev pub moved_value : Moved → Value
@@ -57,7 +57,7 @@ extra u moved name = main_held name +
 
 -- the object of each frame below is held by the frames that it is called from, or is the main
 -- object
-abbrev pub CallersHeld : List Caller → Type 0
+abbrev pub CallersHeld : List CallerFrame → Type 0
 CallersHeld [] = Unit {0}
 CallersHeld (c ∷ callers) =
     (0 < main_held c.self + (receiver_held c.self c.self c.put_by + below_held c.self callers))
@@ -94,11 +94,11 @@ module _ (setting : Setting) (statics : List ℕ) where
   setup = record { setting = setting; statics = statics }
 
   -- the frames below have values of their types, on objects of their classes
-  abbrev pub CallersFit : Store → List Caller → Type 0
+  abbrev pub CallersFit : Store → List CallerFrame → Type 0
   CallersFit store [] = Unit {0}
   CallersFit store (c ∷ callers) =
       AllFit setting.program store (map local_type (shape_of setting.program c.scope))
-      (map value_of c.frame)
+      (map bound_value c.frame)
       × (named_fits setting.program (kind.Class c.scope.class) (head_named store c.self) ≡ true)
       × (head_named store c.self ≡ Some (OfClass c.class))
       × CallersFit store callers
@@ -108,7 +108,7 @@ module _ (setting : Setting) (statics : List ℕ) where
     pub kind : Kind
     pub of_cell : cell_kind setting.program (shape_of setting.program s) store
         (cell_in setting statics s u m.from) ≡ Some kind
-    pub fit : fits setting.program store m.value kind ≡ true
+    pub fit : is_of_kind setting.program store m.value kind ≡ true
 
   abbrev pub AllMoved : Store → Scope → Under → List Moved → Type 0
   AllMoved store s u [] = Unit {0}
@@ -118,7 +118,7 @@ module _ (setting : Setting) (statics : List ℕ) where
   pub record Kept (s : Scope) (u : Under) (moved : List Moved) (st : State) : Type 0 where
     pub class_inside : s.class < length setting.program.classes
     pub variables : AllFit setting.program st.store (map local_type (shape_of setting.program s))
-        (map value_of st.frame)
+        (map bound_value st.frame)
     pub objects : (name : ℕ) (object : Object) → object_named st.store name ≡ Some object
         → AllFit setting.program st.store (cell_kinds setting.program object.head) object.cells
     pub arrays : (name : ℕ) (head : Head) → head_named st.store name ≡ Some head → HasElements head

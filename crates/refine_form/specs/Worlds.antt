@@ -7,7 +7,7 @@ use Rattle.paired_code.specs.Machine.{Image}
 use Rattle.paired_code.specs.Does.{Rates}
 use Rattle.refine_frame.specs.roopl_semantics.Execution.{Setting}
 use Rattle.refine_frame.specs.roopl_semantics.Layout.{no_placing}
-use Rattle.refine_form.specs.Form.{World, Routines}
+use Rattle.refine_form.specs.Form.{World, MethodRoutines}
 use Rattle.refine_form.specs.Frames.{Under, spare_words, stack_base, value_word}
 use Rattle.refine_form.specs.Stands.{Reads, Stands}
 use Rattle.refine_frame.specs.rpp_words.declared.input.TheConstants.{FRAME_WORDS}
@@ -16,7 +16,7 @@ pub record Place : Type 0 where
   pub setting : Setting
   pub statics : List ℕ
   pub im : Image
-  pub routines : Routines
+  pub routines : MethodRoutines
 
 -- nothing but a caller's object is saved in a frame: the words of the link and of the place are 0
 pub record IsFresh (u : Under) : Type 0 where

@@ -1,7 +1,7 @@
 // A fragment between another and its inverse.
 ghost use Rattle.std.specs.Prelude.{◌≡◌, List, [], IfOk};
 ghost use Rattle.refine_form.specs.Cells.{around as around_cells};
-ghost use Rattle.refine_form.specs.Held.{Holds};
+ghost use Rattle.refine_form.specs.Held.{HoldsCode};
 
 use paired_code::{Piece, mirror, seq};
 use rpp_words::NoMemory;
@@ -13,7 +13,7 @@ use std::alloc::Global;
 pub fn around(alloc: Global, outer: Piece, inner: Piece) -> Result<Piece, NoMemory>
     requires none { outer.marks ≡ [] }
     ensures cells { IfOk result (λ p. p.cells ≡ around_cells outer.cells inner.cells) }
-    ensures held { IfOk result (λ p. Holds inner p) }
+    ensures held { IfOk result (λ p. HoldsCode inner p) }
 {
     let back = mirror(alloc, &outer)?;
     seq(outer, seq(inner, back)?)

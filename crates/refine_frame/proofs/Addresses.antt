@@ -13,8 +13,8 @@ use Rattle.meaning_sound.specs.roopl_semantics.Store.{Object, Store, State, main
 use Rattle.meaning_sound.specs.roopl_semantics.Value.{Cell, Slot, Part}
 use Rattle.meaning_sound.specs.roopl_semantics.Execution.{same_cell}
 use Rattle.meaning_sound.specs.pisa_isa.Loaded.{statics_at}
-use Rattle.meaning_sound.specs.Sound.{head_of, cell_kinds, value_of, local_type, cell_kind, Typed}
-use Rattle.refine_frame.specs.Open.{Setup, base_of, stack_at, address_of, cell_address, IsGrounded}
+use Rattle.meaning_sound.specs.Sound.{head_of, cell_kinds, bound_value, local_type, cell_kind, Typed}
+use Rattle.refine_frame.specs.Open.{Setup, setup_base, stack_at, object_address, cell_address, IsGrounded}
 use Rattle.meaning_sound.proofs.Lists.{all_inside, all_length}
 use Rattle.meaning_sound.proofs.Stores.{differs}
 use Rattle.meaning_sound.proofs.Cells.{part_of}
@@ -31,11 +31,11 @@ module _ (u : Setup) (extra : ℕ → ℕ) (shape : Locals) (class : ℕ) (st : 
     pub object : Object
     pub named : object_named st.store n ≡ Some object
     pub inside : i < length (cell_kinds u.setting.program object.head)
-    pub below : address_of u at.blocks n + HEADER_WORDS + i < stack_at u
+    pub below : object_address u at.blocks n + HEADER_WORDS + i < stack_at u
 
   slot_in : (i : ℕ) (k : Kind) → slice_get (map local_type shape) i ≡ Some k → i < length st.frame
-  slot_in i k h = let l = all_inside u.setting.program st.store (map local_type shape) (map value_of st.frame) i k
-      s.variables h in omega (arith, length-map st.frame value_of)
+  slot_in i k h = let l = all_inside u.setting.program st.store (map local_type shape) (map bound_value st.frame) i k
+      s.variables h in omega (arith, length-map st.frame bound_value)
 
   pub part_place : (n i : ℕ) (k : Kind) → cell_kind u.setting.program shape st.store (Part n i) ≡ Some k → PartPlace n i
   part_place n i k h =
@@ -51,7 +51,7 @@ module _ (u : Setup) (extra : ℕ → ℕ) (shape : Locals) (class : ℕ) (st : 
     where
       by : (o : Object) → object_named st.store n ≡ Some o → object_at st.store n ≡ o
           → i < length (cell_kinds u.setting.program o.head) → (b : Bool) → nat_eq n main_name ≡ b
-          → address_of u at.blocks n + HEADER_WORDS + i < stack_at u
+          → object_address u at.blocks n + HEADER_WORDS + i < stack_at u
       by o named at_o inside true e =
           let same = eqb-true n main_name e in
           let cells = main_cells u extra shape class st s g in
@@ -59,7 +59,7 @@ module _ (u : Setup) (extra : ℕ → ℕ) (shape : Locals) (class : ℕ) (st : 
           (s.objects n o named) in
           let length_is : length (object_at st.store main_name).cells ≡ length o.cells =
           ap (λ m. length (object_at st.store m).cells) (sym same) ∙ ap (λ (x : Object). length x.cells) at_o in
-          let a : address_of u at.blocks n ≡ statics_at = ap (address_of u at.blocks) same in
+          let a : object_address u at.blocks n ≡ statics_at = ap (object_address u at.blocks) same in
           let b = base_above u in
           let r = g.room in
           omega arith
@@ -86,7 +86,7 @@ module _ (u : Setup) (extra : ℕ → ℕ) (shape : Locals) (class : ℕ) (st : 
       q = part_place m j l hb
 
       -- the main object's cells are before the heap
-      main_low : (x y : ℕ) → PartPlace x y → x ≡ main_name → address_of u at.blocks x + HEADER_WORDS + y < base_of u
+      main_low : (x y : ℕ) → PartPlace x y → x ≡ main_name → object_address u at.blocks x + HEADER_WORDS + y < setup_base u
       main_low x y place same =
           let cells = main_cells u extra shape class st s g in
           let sized = all_length u.setting.program st.store (cell_kinds u.setting.program place.object.head)
@@ -97,7 +97,7 @@ module _ (u : Setup) (extra : ℕ → ℕ) (shape : Locals) (class : ℕ) (st : 
           let length_is : length (object_at st.store main_name).cells ≡ length place.object.cells =
           ap (λ z. length (object_at st.store z).cells) (sym same)
           ∙ ap (λ (o : Object). length o.cells) object_is in
-          let a : address_of u at.blocks x ≡ statics_at = ap (address_of u at.blocks) same in
+          let a : object_address u at.blocks x ≡ statics_at = ap (object_address u at.blocks) same in
           let b = base_above u in
           let r = g.room in
           let i = place.inside in
@@ -120,6 +120,6 @@ module _ (u : Setup) (extra : ℕ → ℕ) (shape : Locals) (class : ℕ) (st : 
           ⊎_elim (λ z. omega arith) (λ z. omega arith) r
 
       by : (b : Bool) → nat_eq n m ≡ b → (b && nat_eq i j) ≡ false → ⊥
-      by true f z = differs i j z (let c : address_of u at.blocks n
-          ≡ address_of u at.blocks m = ap (address_of u at.blocks) (eqb-true n m f) in omega arith)
+      by true f z = differs i j z (let c : object_address u at.blocks n
+          ≡ object_address u at.blocks m = ap (object_address u at.blocks) (eqb-true n m f) in omega arith)
       by false f z = two (nat_eq n main_name) (nat_eq m main_name) refl refl (differs n m f)

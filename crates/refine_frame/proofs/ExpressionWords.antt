@@ -11,9 +11,9 @@ use Rattle.meaning_sound.specs.class_rules.Expressions.{is_int, compares, is_ref
 use Rattle.meaning_sound.specs.class_rules.Program.{setting_in}
 use Rattle.meaning_sound.specs.roopl_semantics.Store.{Value, Nil, State, main_name}
 use Rattle.meaning_sound.specs.roopl_semantics.Value.{Cell, cell_named, read, read_cell, element_of, value}
-use Rattle.meaning_sound.specs.roopl_semantics.Layout.{word_of}
+use Rattle.meaning_sound.specs.roopl_semantics.Layout.{word_of_value}
 use Rattle.meaning_sound.specs.Sound.{held, Typed}
-use Rattle.refine_frame.specs.Open.{Setup, base_of}
+use Rattle.refine_frame.specs.Open.{Setup, setup_base}
 use Rattle.meaning_sound.specs.Kept.{MeansSame}
 use Rattle.meaning_sound.proofs.Classes.{KnowsClasses}
 use Rattle.meaning_sound.proofs.Objects.{clash}
@@ -55,7 +55,7 @@ module _ (u : Setup) (classes : KnowsClasses u.setting.program) (extra : ℕ →
   typing = setting_in program (table_of program) class
 
   abbrev word : Value → ℕ
-  word v = word_of (base_of u) s.placed.at.blocks v
+  word v = word_of_value (setup_base u) s.placed.at.blocks v
 
   abbrev Ref : Value → Type 0
   Ref v = IsRef u extra shape class st s unheld v

@@ -13,7 +13,7 @@ use Rattle.meaning_sound.specs.roopl_semantics.Store.{Value, Nil, Object, Store,
 use Rattle.meaning_sound.specs.roopl_semantics.Store.{object_at}
 use Rattle.meaning_sound.specs.roopl_semantics.Store.{changed_at}
 use Rattle.meaning_sound.specs.roopl_semantics.Execution.{Setting}
-use Rattle.meaning_sound.specs.roopl_semantics.Layout.{overlaid, word_of, head_word, object_words, with_links}
+use Rattle.meaning_sound.specs.roopl_semantics.Layout.{overlaid, word_of_value, head_word, object_words, with_links}
 use Rattle.meaning_sound.specs.roopl_semantics.Layout.{with_book}
 use Rattle.meaning_sound.specs.roopl_semantics.Layout.{with_objects, heap_words}
 use Rattle.meaning_sound.specs.buddy_book.Shown.{first_address}
@@ -54,7 +54,7 @@ length_heap program size base store at =
 
 pub length_words : (program : Source) (base : ℕ) (blocks : List (ℕ × ℕ)) (o : Object)
     → length (object_words program base blocks o) ≡ HEADER_WORDS + length o.cells
-length_words program base blocks o = omega (arith, length-map o.cells (word_of base blocks))
+length_words program base blocks o = omega (arith, length-map o.cells (word_of_value base blocks))
 
 -- ---- a word of an object
 
@@ -76,16 +76,16 @@ index_map f (v ∷ vs) (suc i) h = index_map f vs i (omega arith)
 
 pub index_object : (program : Source) (base : ℕ) (blocks : List (ℕ × ℕ)) (o : Object) (i : ℕ) → i < length o.cells
     → slice_index (object_words program base blocks o) (HEADER_WORDS + i)
-    ≡ word_of base blocks (unwrap_or (slice_get o.cells i) Nil)
+    ≡ word_of_value base blocks (unwrap_or (slice_get o.cells i) Nil)
 index_object program base blocks o i h = index_words (head_word program o.head) o.count
-    (map (word_of base blocks) o.cells) i ∙ index_map (word_of base blocks) o.cells i h
+    (map (word_of_value base blocks) o.cells) i ∙ index_map (word_of_value base blocks) o.cells i h
 
 pub set_object : (program : Source) (base : ℕ) (blocks : List (ℕ × ℕ)) (o : Object) (i : ℕ) (v : Value)
-    → slice_set (object_words program base blocks o) (HEADER_WORDS + i) (word_of base blocks v)
+    → slice_set (object_words program base blocks o) (HEADER_WORDS + i) (word_of_value base blocks v)
     ≡ object_words program base blocks (with_cell i v o)
 set_object program base blocks o i v =
-    set_words (head_word program o.head) o.count (map (word_of base blocks) o.cells) i (word_of base blocks v)
-    ∙ ap (λ z. header (head_word program o.head) o.count ++ z) (sym (map-set (word_of base blocks) o.cells i v))
+    set_words (head_word program o.head) o.count (map (word_of_value base blocks) o.cells) i (word_of_value base blocks v)
+    ∙ ap (λ z. header (head_word program o.head) o.count ++ z) (sym (map-set (word_of_value base blocks) o.cells i v))
 
 pub changed_object : (store : Store) (n : ℕ) (f : Object → Object) (o : Object) → object_named store n ≡ Some o
     → object_at (changed_at store n f) n ≡ f (object_at store n)

@@ -12,7 +12,7 @@ use Rattle.meaning_sound.specs.roopl_semantics.Store.{State, main_name, object_a
 use Rattle.meaning_sound.specs.roopl_semantics.Layout.{overlaid, object_words, with_book, heap_words}
 use Rattle.meaning_sound.specs.roopl_semantics.Laws.{holders}
 use Rattle.meaning_sound.specs.Sound.{head_of, is_live, cell_kinds, held, Typed}
-use Rattle.refine_frame.specs.Open.{Setup, base_of, memory, IsGrounded}
+use Rattle.refine_frame.specs.Open.{Setup, setup_base, memory, IsGrounded}
 use Rattle.meaning_sound.proofs.Lists.{all_length}
 use Rattle.meaning_sound.proofs.Stores.{live_object}
 use Rattle.meaning_sound.proofs.Regions.{region_inside, blocks_descend, entries_are, entry_of, room_of}
@@ -31,7 +31,7 @@ module _ (u : Setup) (extra : ℕ → ℕ) (shape : Locals) (class : ℕ) (st : 
   at = s.placed.at
 
   abbrev base : ℕ
-  base = base_of u
+  base = setup_base u
 
   abbrev size : ℕ
   size = 2 ^ u.setting.limits.heap

@@ -18,14 +18,14 @@ use Rattle.meaning_sound.specs.roopl_semantics.Store.{main_name}
 use Rattle.meaning_sound.specs.roopl_semantics.Store.{object_named, object_at, changed_at}
 use Rattle.meaning_sound.specs.roopl_semantics.Source.{main_fields}
 use Rattle.meaning_sound.specs.class_rules.Classes.{main_of}
-use Rattle.meaning_sound.specs.roopl_semantics.Layout.{overlaid, word_of, object_words, with_book, heap_words}
+use Rattle.meaning_sound.specs.roopl_semantics.Layout.{overlaid, word_of_value, object_words, with_book, heap_words}
 use Rattle.meaning_sound.specs.roopl_semantics.Layout.{static_words}
 use Rattle.meaning_sound.specs.roopl_semantics.Layout.{laid, layout, no_placing}
 use Rattle.meaning_sound.specs.buddy_book.Shown.{first_address}
 use Rattle.meaning_sound.specs.pisa_isa.Loaded.{statics_at, fixed_cells}
 use Rattle.meaning_sound.specs.class_rules.Inheritance.{kind_of_var}
 use Rattle.meaning_sound.specs.Sound.{head_of, is_live, cell_kinds, Typed}
-use Rattle.refine_frame.specs.Open.{Setup, base_of, stack_at, address_of, memory, IsGrounded}
+use Rattle.refine_frame.specs.Open.{Setup, setup_base, stack_at, object_address, memory, IsGrounded}
 use Rattle.meaning_sound.proofs.Lists.{all_length}
 use Rattle.meaning_sound.proofs.Stores.{other_number, live_object, changed_other}
 use Rattle.meaning_sound.proofs.Overlays.{length_overlaid, index_inside, set_inside, zeros_padded, none_over_zeros}
@@ -44,7 +44,7 @@ rounded x s pos =
     let c : n / s * s ≡ s * (n / s) = omega arith in
     omega arith
 
-pub base_above : (u : Setup) → statics_at + length u.statics ≤ base_of u
+pub base_above : (u : Setup) → statics_at + length u.statics ≤ setup_base u
 base_above u = rounded (statics_at + length u.statics) (2 ^ u.setting.limits.heap) (pow_pos u.setting.limits.heap)
 
 -- ---- five parts of a list
@@ -126,7 +126,7 @@ module _ (u : Setup) (extra : ℕ → ℕ) (shape : Locals) (class : ℕ) (st : 
   at = s.placed.at
 
   abbrev pub base : ℕ
-  base = base_of u
+  base = setup_base u
 
   abbrev pub size : ℕ
   size = 2 ^ u.setting.limits.heap
@@ -209,12 +209,12 @@ module _ (u : Setup) (extra : ℕ → ℕ) (shape : Locals) (class : ℕ) (st : 
       ∙ ap (λ z. fixed ++ statics ++ gap ++ heap ++ z) (set_inside (replicate (FRAME_WORDS * u.setting.limits.deep) 0) 0
       stack i i w (omega arith) h)
 
-  pub address_other : (n : ℕ) → n ≢ main_name → address_of u at.blocks n ≡ base + block_of at.blocks n
+  pub address_other : (n : ℕ) → n ≢ main_name → object_address u at.blocks n ≡ base + block_of at.blocks n
   address_other n h = ap (λ t. if t then statics_at else base + block_of at.blocks n) (other_number n main_name h)
 
   pub read_main : (stack : List ℕ) (i : ℕ) → i < length (object_at st.store main_name).cells
       → slice_index (memory u at st.store stack) (statics_at + HEADER_WORDS + i)
-      ≡ word_of base at.blocks (unwrap_or (slice_get (object_at st.store main_name).cells i) Nil)
+      ≡ word_of_value base at.blocks (unwrap_or (slice_get (object_at st.store main_name).cells i) Nil)
   read_main stack i h =
       let main = object_words program base at.blocks (object_at st.store main_name) in
       let l = main_long in
@@ -226,7 +226,7 @@ module _ (u : Setup) (extra : ℕ → ℕ) (shape : Locals) (class : ℕ) (st : 
 
   pub read_object : (stack : List ℕ) (n i : ℕ) → is_live st.store n ≡ true → n ≢ main_name
       → i < length (object_at st.store n).cells → slice_index (memory u at st.store stack)
-      (base + block_of at.blocks n + HEADER_WORDS + i) ≡ word_of base at.blocks
+      (base + block_of at.blocks n + HEADER_WORDS + i) ≡ word_of_value base at.blocks
       (unwrap_or (slice_get (object_at st.store n).cells i) Nil)
   read_object stack n i live no_main h =
       let named = live_object st.store n live in
@@ -320,15 +320,15 @@ module _ (u : Setup) (extra : ℕ → ℕ) (shape : Locals) (class : ℕ) (st : 
       → j < length (object_words program base at.blocks (object_at st.store n))
       → slice_set (object_words program base at.blocks (object_at st.store n)) j w
       ≡ object_words program base at.blocks (f (object_at st.store n))
-      → slice_set (memory u at st.store stack) (address_of u at.blocks n + j) w
+      → slice_set (memory u at st.store stack) (object_address u at.blocks n + j) w
       ≡ memory u at (changed_at st.store n f) stack
   write_word stack n live f j w h whole = by (nat_eq n main_name) refl
     where
-      by : (b : Bool) → nat_eq n main_name ≡ b → slice_set (memory u at st.store stack) (address_of u at.blocks n + j) w
+      by : (b : Bool) → nat_eq n main_name ≡ b → slice_set (memory u at st.store stack) (object_address u at.blocks n + j) w
           ≡ memory u at (changed_at st.store n f) stack
       by true e =
           let same = eqb-true n main_name e in
-          subst (λ k. slice_set (memory u at st.store stack) (address_of u at.blocks k + j) w
+          subst (λ k. slice_set (memory u at st.store stack) (object_address u at.blocks k + j) w
           ≡ memory u at (changed_at st.store k f) stack) (sym same)
           (write_main stack f j w (subst (λ k. j < length (object_words program base at.blocks (object_at st.store k)))
           same h) (subst (λ k. slice_set (object_words program base at.blocks (object_at st.store k)) j w
@@ -340,19 +340,19 @@ module _ (u : Setup) (extra : ℕ → ℕ) (shape : Locals) (class : ℕ) (st : 
 
   pub write_part : (stack : List ℕ) (n i : ℕ) (v : Value) → is_live st.store n ≡ true
       → i < length (object_at st.store n).cells → slice_set (memory u at st.store stack)
-      (address_of u at.blocks n + HEADER_WORDS + i) (word_of base at.blocks v)
+      (object_address u at.blocks n + HEADER_WORDS + i) (word_of_value base at.blocks v)
       ≡ memory u at (changed_at st.store n (with_cell i v)) stack
   write_part stack n i v live h =
-      let e : address_of u at.blocks n + HEADER_WORDS + i ≡ address_of u at.blocks n + (HEADER_WORDS + i) =
+      let e : object_address u at.blocks n + HEADER_WORDS + i ≡ object_address u at.blocks n + (HEADER_WORDS + i) =
       omega arith in
-      ap (λ a. slice_set (memory u at st.store stack) a (word_of base at.blocks v)) e
-      ∙ write_word stack n live (with_cell i v) (HEADER_WORDS + i) (word_of base at.blocks v)
+      ap (λ a. slice_set (memory u at st.store stack) a (word_of_value base at.blocks v)) e
+      ∙ write_word stack n live (with_cell i v) (HEADER_WORDS + i) (word_of_value base at.blocks v)
       (omega (arith, length_words program base at.blocks (object_at st.store n)))
       (set_object program base at.blocks (object_at st.store n) i v)
 
   -- the count of an object changes
   pub write_count : (stack : List ℕ) (n : ℕ) (change : ℕ → ℕ) → is_live st.store n ≡ true
-      → slice_set (memory u at st.store stack) (address_of u at.blocks n + 1) (change (object_at st.store n).count)
+      → slice_set (memory u at st.store stack) (object_address u at.blocks n + 1) (change (object_at st.store n).count)
       ≡ memory u at (changed_at st.store n (with_count change)) stack
   write_count stack n change live =
       write_word stack n live (with_count change) 1 (change (object_at st.store n).count)
@@ -360,19 +360,19 @@ module _ (u : Setup) (extra : ℕ → ℕ) (shape : Locals) (class : ℕ) (st : 
       (set_count program base at.blocks (object_at st.store n) change)
 
   pub read_part : (stack : List ℕ) (n i : ℕ) → is_live st.store n ≡ true → i < length (object_at st.store n).cells
-      → slice_index (memory u at st.store stack) (address_of u at.blocks n + HEADER_WORDS + i)
-      ≡ word_of base at.blocks (unwrap_or (slice_get (object_at st.store n).cells i) Nil)
+      → slice_index (memory u at st.store stack) (object_address u at.blocks n + HEADER_WORDS + i)
+      ≡ word_of_value base at.blocks (unwrap_or (slice_get (object_at st.store n).cells i) Nil)
   read_part stack n i live h = by (nat_eq n main_name) refl
     where
       by : (b : Bool) → nat_eq n main_name ≡ b → slice_index (memory u at st.store stack)
-          (address_of u at.blocks n + HEADER_WORDS + i) ≡ word_of base at.blocks
+          (object_address u at.blocks n + HEADER_WORDS + i) ≡ word_of_value base at.blocks
           (unwrap_or (slice_get (object_at st.store n).cells i) Nil)
       by true e =
           let same = eqb-true n main_name e in
           let inside : i < length (object_at st.store main_name).cells =
           subst (λ k. i < length (object_at st.store k).cells) same h in
-          subst (λ k. slice_index (memory u at st.store stack) (address_of u at.blocks k + HEADER_WORDS + i)
-          ≡ word_of base at.blocks (unwrap_or (slice_get (object_at st.store k).cells i) Nil)) (sym same)
+          subst (λ k. slice_index (memory u at st.store stack) (object_address u at.blocks k + HEADER_WORDS + i)
+          ≡ word_of_value base at.blocks (unwrap_or (slice_get (object_at st.store k).cells i) Nil)) (sym same)
           (read_main stack i inside)
       by false e =
           let apart = Rattle.meaning_sound.proofs.Stores.differs n main_name e in
@@ -398,10 +398,10 @@ module _ (u : Setup) (extra : ℕ → ℕ) (shape : Locals) (class : ℕ) (st : 
 pub zeros_end : (u : Setup) (at : Placing) (store : Store) (stack : List ℕ) (n : ℕ)
     → memory u at store (stack ++ replicate n 0) ≡ memory u at store stack
 zeros_end u at store stack n =
-    let front = fixed_cells u.setting.limits.heap u.setting.limits.deep (base_of u)
-    (map (first_address (base_of u)) at.book) ++ static_words u.setting.program (base_of u) at.blocks u.statics
-    store ++ replicate (base_of u - statics_at - length u.statics) 0
-    ++ heap_words u.setting.program (2 ^ u.setting.limits.heap) (base_of u) store at in
+    let front = fixed_cells u.setting.limits.heap u.setting.limits.deep (setup_base u)
+    (map (first_address (setup_base u)) at.book) ++ static_words u.setting.program (setup_base u) at.blocks u.statics
+    store ++ replicate (setup_base u - statics_at - length u.statics) 0
+    ++ heap_words u.setting.program (2 ^ u.setting.limits.heap) (setup_base u) store at in
     ap (λ z. front ++ z) (zeros_padded (FRAME_WORDS * u.setting.limits.deep) stack n)
 
 -- with no words on the stack the memory is the layout
@@ -409,10 +409,10 @@ pub memory_is_layout : (u : Setup) (at : Placing) (store : Store) (log : Log)
     → place u.setting.limits.heap log ≡ Some at → memory u at store []
     ≡ layout u.setting.program u.setting.limits u.statics store log
 memory_is_layout u at store log placed =
-    let front = fixed_cells u.setting.limits.heap u.setting.limits.deep (base_of u)
-    (map (first_address (base_of u)) at.book) ++ static_words u.setting.program (base_of u) at.blocks u.statics
-    store ++ replicate (base_of u - statics_at - length u.statics) 0
-    ++ heap_words u.setting.program (2 ^ u.setting.limits.heap) (base_of u) store at in
+    let front = fixed_cells u.setting.limits.heap u.setting.limits.deep (setup_base u)
+    (map (first_address (setup_base u)) at.book) ++ static_words u.setting.program (setup_base u) at.blocks u.statics
+    store ++ replicate (setup_base u - statics_at - length u.statics) 0
+    ++ heap_words u.setting.program (2 ^ u.setting.limits.heap) (setup_base u) store at in
     ap (λ z. front ++ z) (none_over_zeros (FRAME_WORDS * u.setting.limits.deep))
     ∙ ap (λ o. laid u.setting.program u.setting.limits u.statics store (unwrap_or o no_placing)
     (replicate (FRAME_WORDS * u.setting.limits.deep) 0)) (sym placed)

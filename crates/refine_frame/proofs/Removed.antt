@@ -17,7 +17,7 @@ use Rattle.meaning_sound.specs.roopl_semantics.Store.{Value, Word, Nil, Name, Ob
 use Rattle.meaning_sound.specs.roopl_semantics.Store.{object_named}
 use Rattle.meaning_sound.specs.roopl_semantics.Store.{object_at, without}
 use Rattle.meaning_sound.specs.roopl_semantics.Execution.{Setting, order_of_cells}
-use Rattle.meaning_sound.specs.roopl_semantics.Layout.{overlaid, word_of, head_word, object_words, with_links}
+use Rattle.meaning_sound.specs.roopl_semantics.Layout.{overlaid, word_of_value, head_word, object_words, with_links}
 use Rattle.meaning_sound.specs.roopl_semantics.Layout.{with_book}
 use Rattle.meaning_sound.specs.roopl_semantics.Layout.{with_objects}
 use Rattle.meaning_sound.specs.buddy_book.Shown.{first_address}
@@ -102,13 +102,13 @@ overlaid_right xs ys c b w e = overlaid_is (xs ++ ys) c w ∙ laid_right xs ys c
 -- ---- words of values that do not name it
 
 pub words_same : (base : ℕ) (blocks : List (ℕ × ℕ)) (n : ℕ) (vs : List Value) → holders_among n vs ≡ 0
-    → map (word_of base (without_name blocks n)) vs ≡ map (word_of base blocks) vs
+    → map (word_of_value base (without_name blocks n)) vs ≡ map (word_of_value base blocks) vs
 words_same base blocks n [] h = refl
 words_same base blocks n (v ∷ vs) h =
-    ap (λ z. z ∷ map (word_of base (without_name blocks n)) vs) (one v (omega arith))
-    ∙ ap (λ z. word_of base blocks v ∷ z) (words_same base blocks n vs (omega arith))
+    ap (λ z. z ∷ map (word_of_value base (without_name blocks n)) vs) (one v (omega arith))
+    ∙ ap (λ z. word_of_value base blocks v ∷ z) (words_same base blocks n vs (omega arith))
   where
-    one : (v : Value) → one_if_name n v ≡ 0 → word_of base (without_name blocks n) v ≡ word_of base blocks v
+    one : (v : Value) → one_if_name n v ≡ 0 → word_of_value base (without_name blocks n) v ≡ word_of_value base blocks v
     one (Word w) k = refl
     one Nil k = refl
     one (Name m) k = ap (λ b. base + b) (block_of_other blocks n m

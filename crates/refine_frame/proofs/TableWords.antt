@@ -16,7 +16,7 @@ use Rattle.meaning_sound.specs.roopl_semantics.Layout.{HasStatics, table_at, mai
 use Rattle.meaning_sound.specs.pisa_isa.Image.{Segments}
 use Rattle.meaning_sound.specs.pisa_isa.Loaded.{statics_at}
 use Rattle.meaning_sound.specs.Sound.{Typed}
-use Rattle.refine_frame.specs.Open.{Setup, base_of, memory, IsGrounded}
+use Rattle.refine_frame.specs.Open.{Setup, setup_base, memory, IsGrounded}
 use Rattle.refine_frame.proofs.Memory.{second, fixed, statics, gap, heap, stack_part, length_fixed, length_statics}
 use Rattle.refine_frame.proofs.Memory.{main_long}
 
@@ -109,7 +109,7 @@ pub read_table : (u : Setup) (extra : ℕ → ℕ) (shape : Locals) (class : ℕ
 read_table u extra shape class st s g image has same stack own slot inside h =
     let program = u.setting.program in
     let at = s.placed.at in
-    let main = object_words program (base_of u) at.blocks (object_at st.store main_name) in
+    let main = object_words program (setup_base u) at.blocks (object_at st.store main_name) in
     let long = main_long u extra shape class st s g in
     let places = has.places in
     let l = places_length program image has own inside in

@@ -17,13 +17,13 @@ use Rattle.meaning_sound.proofs.buddy_book_laws.StoredLaws.{two_power}
 use Rattle.meaning_sound.specs.roopl_semantics.Store.{Value, Word, Nil, Name, State, main_name, number_of, object_at}
 use Rattle.meaning_sound.specs.roopl_semantics.Value.{Cell, read}
 use Rattle.meaning_sound.specs.rpp_words.Limits.{IsLimits}
-use Rattle.meaning_sound.specs.roopl_semantics.Layout.{word_of, head_word, object_words, with_book}
+use Rattle.meaning_sound.specs.roopl_semantics.Layout.{word_of_value, head_word, object_words, with_book}
 use Rattle.meaning_sound.specs.roopl_semantics.Laws.{one_if_name}
 use Rattle.meaning_sound.specs.pisa_isa.Loaded.{statics_at}
 use Rattle.meaning_sound.specs.pisa_isa.declared.image.TheConstants.{MOST_STATICS}
 use Rattle.meaning_sound.specs.rpp_words.declared.input.TheConstants.{FRAME_WORDS}
-use Rattle.meaning_sound.specs.Sound.{head_of, is_live, fits, cell_kinds, cell_kind, held, Typed}
-use Rattle.refine_frame.specs.Open.{Setup, base_of, stack_at, address_of, memory, IsGrounded}
+use Rattle.meaning_sound.specs.Sound.{head_of, is_live, is_of_kind, cell_kinds, cell_kind, held, Typed}
+use Rattle.refine_frame.specs.Open.{Setup, setup_base, stack_at, object_address, memory, IsGrounded}
 use Rattle.meaning_sound.proofs.Lists.{all_length}
 use Rattle.meaning_sound.proofs.Stores.{live_object, other_number, same_number, differs}
 use Rattle.meaning_sound.proofs.Cells.{read_fits, held_written}
@@ -60,7 +60,7 @@ module _ (u : Setup) (extra : ℕ → ℕ) (shape : Locals) (class : ℕ) (st : 
   at = s.placed.at
 
   abbrev base : ℕ
-  base = base_of u
+  base = setup_base u
 
   -- a name in a cell is live and not the main object's
   pub record IsReference (n : ℕ) : Type 0 where
@@ -70,8 +70,8 @@ module _ (u : Setup) (extra : ℕ → ℕ) (shape : Locals) (class : ℕ) (st : 
   pub reference_read : (cell : Cell) (k : Kind) (n : ℕ) → cell_kind u.setting.program shape st.store cell ≡ Some k
       → read st cell ≡ Name n → IsReference n
   reference_read cell k n h reads =
-      let fit : fits u.setting.program st.store (Name n) k ≡ true =
-      subst (λ v. fits u.setting.program st.store v k ≡ true) reads
+      let fit : is_of_kind u.setting.program st.store (Name n) k ≡ true =
+      subst (λ v. is_of_kind u.setting.program st.store v k ≡ true) reads
       (read_fits u.setting extra shape class st cell k s h) in
       let a = held_written u.setting extra shape class st cell k (Word 0) n s h in
       let b : one_if_name n (read st cell) ≡ 1 = ap (one_if_name n) reads ∙ one_name n in
@@ -81,8 +81,8 @@ module _ (u : Setup) (extra : ℕ → ℕ) (shape : Locals) (class : ℕ) (st : 
       }
 
   -- a name's word is no 0, and is below the stack
-  pub name_word : (n : ℕ) → IsReference n → (0 < word_of base at.blocks (Name n))
-      × (word_of base at.blocks (Name n) < stack_at u)
+  pub name_word : (n : ℕ) → IsReference n → (0 < word_of_value base at.blocks (Name n))
+      × (word_of_value base at.blocks (Name n) < stack_at u)
   name_word n r =
       let b = base_above u in
       let inside = region_inside u.setting st.store st.log s.placed n (object_at st.store n).head
@@ -91,7 +91,7 @@ module _ (u : Setup) (extra : ℕ → ℕ) (shape : Locals) (class : ℕ) (st : 
 
   -- two names have one word only if they are one
   pub names_tell : (n m : ℕ) → IsReference n → IsReference m
-      → word_of base at.blocks (Name n) ≡ word_of base at.blocks (Name m) → n ≡ m
+      → word_of_value base at.blocks (Name n) ≡ word_of_value base at.blocks (Name m) → n ≡ m
   names_tell n m r q e = by (nat_eq n m) refl
     where
       by : (b : Bool) → nat_eq n m ≡ b → n ≡ m
@@ -120,23 +120,23 @@ module _ (u : Setup) (extra : ℕ → ℕ) (shape : Locals) (class : ℕ) (st : 
   IsRef (Name n) = IsReference n
 
   -- equal words are equal references
-  pub words_tell : (v w : Value) → IsRef v → IsRef w → nat_eq (word_of base at.blocks v) (word_of base at.blocks w)
+  pub words_tell : (v w : Value) → IsRef v → IsRef w → nat_eq (word_of_value base at.blocks v) (word_of_value base at.blocks w)
       ≡ nat_eq (number_of v) (number_of w)
   words_tell (Word a) w p q = absurd p
   words_tell Nil (Word b) p q = absurd q
   words_tell (Name n) (Word b) p q = absurd q
   words_tell Nil Nil p q = refl
   words_tell Nil (Name m) p q = let a = (name_word m q).0 in let b = name_positive m q in
-      other_number 0 (word_of base at.blocks (Name m)) (λ e. omega arith) ∙ sym (other_number 0 m (λ e. omega arith))
+      other_number 0 (word_of_value base at.blocks (Name m)) (λ e. omega arith) ∙ sym (other_number 0 m (λ e. omega arith))
   words_tell (Name n) Nil p q = let a = (name_word n p).0 in let b = name_positive n p in
-      other_number (word_of base at.blocks (Name n)) 0 (λ e. omega arith) ∙ sym (other_number n 0 (λ e. omega arith))
+      other_number (word_of_value base at.blocks (Name n)) 0 (λ e. omega arith) ∙ sym (other_number n 0 (λ e. omega arith))
   words_tell (Name n) (Name m) p q = by (nat_eq n m) refl
     where
-      by : (b : Bool) → nat_eq n m ≡ b → nat_eq (word_of base at.blocks (Name n)) (word_of base at.blocks (Name m))
+      by : (b : Bool) → nat_eq n m ≡ b → nat_eq (word_of_value base at.blocks (Name n)) (word_of_value base at.blocks (Name m))
           ≡ nat_eq n m
-      by true e = ap (λ k. nat_eq (word_of base at.blocks (Name k)) (word_of base at.blocks (Name m))) (eqb-true n m e)
-          ∙ same_number (word_of base at.blocks (Name m)) ∙ sym e
-      by false e = other_number (word_of base at.blocks (Name n)) (word_of base at.blocks (Name m))
+      by true e = ap (λ k. nat_eq (word_of_value base at.blocks (Name k)) (word_of_value base at.blocks (Name m))) (eqb-true n m e)
+          ∙ same_number (word_of_value base at.blocks (Name m)) ∙ sym e
+      by false e = other_number (word_of_value base at.blocks (Name n)) (word_of_value base at.blocks (Name m))
           (λ z. differs n m e (names_tell n m p q z)) ∙ sym e
 
   -- what is read from a cell of a type that is no int is nil or a reference
@@ -144,7 +144,7 @@ module _ (u : Setup) (extra : ℕ → ℕ) (shape : Locals) (class : ℕ) (st : 
       → is_int k ≡ false → IsRef (read st cell)
   reference_cell cell k h no_int = by (read st cell) refl (read_fits u.setting extra shape class st cell k s h)
     where
-      by : (v : Value) → read st cell ≡ v → fits u.setting.program st.store v k ≡ true → IsRef v
+      by : (v : Value) → read st cell ≡ v → is_of_kind u.setting.program st.store v k ≡ true → IsRef v
       by (Word w) e f = clash (is_int k && nat_lt w (2 ^ 32)) f (ap (λ b. b && nat_lt w (2 ^ 32)) no_int)
       by Nil e f = tt
       by (Name n) e f = reference_read cell k n h e
@@ -154,7 +154,7 @@ module _ (u : Setup) (extra : ℕ → ℕ) (shape : Locals) (class : ℕ) (st : 
   module _ (g : IsGrounded u st.store) where
     pub read_word : (stack : List ℕ) (n j : ℕ) → is_live st.store n ≡ true
         → j < length (object_words u.setting.program base at.blocks (object_at st.store n))
-        → slice_index (memory u at st.store stack) (address_of u at.blocks n + j)
+        → slice_index (memory u at st.store stack) (object_address u at.blocks n + j)
         ≡ slice_index (object_words u.setting.program base at.blocks (object_at st.store n)) j
     read_word stack n j live h = by (nat_eq n main_name) refl
       where
@@ -197,11 +197,11 @@ module _ (u : Setup) (extra : ℕ → ℕ) (shape : Locals) (class : ℕ) (st : 
             ∙ length-replicate {A = ℕ} (2 ^ u.setting.limits.heap) 0 in omega arith)
 
         by : (b : Bool) → nat_eq n main_name ≡ b → slice_index (memory u at st.store stack)
-            (address_of u at.blocks n + j) ≡ slice_index (object_words u.setting.program base at.blocks
+            (object_address u at.blocks n + j) ≡ slice_index (object_words u.setting.program base at.blocks
             (object_at st.store n)) j
         by true e =
             let same = eqb-true n main_name e in
-            subst (λ k. slice_index (memory u at st.store stack) (address_of u at.blocks k + j)
+            subst (λ k. slice_index (memory u at st.store stack) (object_address u at.blocks k + j)
             ≡ slice_index (object_words u.setting.program base at.blocks (object_at st.store k)) j) (sym same)
             (main_case (subst (λ k. j < length (object_words u.setting.program base at.blocks (object_at st.store k)))
             same h))
@@ -210,15 +210,15 @@ module _ (u : Setup) (extra : ℕ → ℕ) (shape : Locals) (class : ℕ) (st : 
 
     -- the first word is the class table's address, or an array's length
     pub read_head : (stack : List ℕ) (n : ℕ) → is_live st.store n ≡ true
-        → slice_index (memory u at st.store stack) (address_of u at.blocks n)
+        → slice_index (memory u at st.store stack) (object_address u at.blocks n)
         ≡ head_word u.setting.program (object_at st.store n).head
     read_head stack n live =
-        let z : address_of u at.blocks n ≡ address_of u at.blocks n + 0 = omega arith in
+        let z : object_address u at.blocks n ≡ object_address u at.blocks n + 0 = omega arith in
         ap (slice_index (memory u at st.store stack)) z ∙ read_word stack n 0 live
         (omega (arith, length_words u.setting.program base at.blocks (object_at st.store n)))
 
     -- the second is the count
     pub read_count : (stack : List ℕ) (n : ℕ) → is_live st.store n ≡ true
-        → slice_index (memory u at st.store stack) (address_of u at.blocks n + 1) ≡ (object_at st.store n).count
+        → slice_index (memory u at st.store stack) (object_address u at.blocks n + 1) ≡ (object_at st.store n).count
     read_count stack n live = read_word stack n 1 live (omega
         (arith, length_words u.setting.program base at.blocks (object_at st.store n)))

@@ -9,7 +9,7 @@ use Rattle.meaning_sound.specs.roopl_semantics.Execution.{Setting}
 use Rattle.meaning_sound.specs.roopl_semantics.Source.{main_fields}
 use Rattle.meaning_sound.specs.class_rules.Classes.{main_of}
 use Rattle.meaning_sound.specs.rpp_words.Limits.{IsLimits}
-use Rattle.meaning_sound.specs.roopl_semantics.Layout.{overlaid, word_of, laid}
+use Rattle.meaning_sound.specs.roopl_semantics.Layout.{overlaid, word_of_value, laid}
 use Rattle.meaning_sound.specs.pisa_isa.Loaded.{statics_at, heap_base}
 use Rattle.meaning_sound.specs.pisa_isa.Machine.{State as Machine, reg}
 use Rattle.meaning_sound.specs.code_conventions.declared.registers.TheConstants.{FRAME, OBJECT}
@@ -22,15 +22,15 @@ pub record Setup : Type 0 where
   pub setting : Setting
   pub statics : List ℕ
 
-abbrev pub base_of : Setup → ℕ
-base_of u = heap_base u.setting.limits.heap (length u.statics)
+abbrev pub setup_base : Setup → ℕ
+setup_base u = heap_base u.setting.limits.heap (length u.statics)
 
 abbrev pub stack_at : Setup → ℕ
-stack_at u = base_of u + 2 ^ u.setting.limits.heap
+stack_at u = setup_base u + 2 ^ u.setting.limits.heap
 
 -- the address of an object: the main object among the static cells, any other one at its block
-abbrev pub address_of : Setup → List (ℕ × ℕ) → ℕ → ℕ
-address_of u blocks name = if nat_eq name main_name then statics_at else base_of u + block_of blocks
+abbrev pub object_address : Setup → List (ℕ × ℕ) → ℕ → ℕ
+object_address u blocks name = if nat_eq name main_name then statics_at else setup_base u + block_of blocks
     name
 
 -- all cells, with these words on the stack and zeros above them
@@ -42,7 +42,7 @@ memory u at store stack =
 -- the words of the variables, the outermost first
 abbrev pub frame_words : ℕ → List (ℕ × ℕ) → List Binding → List ℕ
 frame_words base blocks [] = []
-frame_words base blocks (b ∷ frame) = frame_words base blocks frame ++ word_of base blocks b.value
+frame_words base blocks (b ∷ frame) = frame_words base blocks frame ++ word_of_value base blocks b.value
     ∷ []
 
 -- the word of the frame that holds a variable
@@ -53,7 +53,7 @@ variable_word st index = FIRST_VARIABLE + (length st.frame - 1 - index)
 abbrev pub cell_address : Setup → List (ℕ × ℕ) → State → Cell → ℕ
 cell_address u blocks st (Slot index) = stack_at u + FRAME_WORDS * (st.depth - 1) + variable_word st
     index
-cell_address u blocks st (Part name index) = address_of u blocks name + HEADER_WORDS + index
+cell_address u blocks st (Part name index) = object_address u blocks name + HEADER_WORDS + index
 
 -- the limits are in range, the static cells have space for the main object, whose class stays
 pub record IsGrounded (u : Setup) (store : Store) : Type 0 where
@@ -63,14 +63,14 @@ pub record IsGrounded (u : Setup) (store : Store) : Type 0 where
 
 -- Memory and the two addresses of a current frame. Below its variables the stack has any words: the
 -- frames below, and what is saved.
-pub record Open (u : Setup) (at : Placing) (below : List ℕ) (st : State) (m : Machine) : Type 0
+pub record OpenMemory (u : Setup) (at : Placing) (below : List ℕ) (st : State) (m : Machine) : Type 0
   where
     pub placed : place u.setting.limits.heap st.log ≡ Some at
-    pub cells : m.cells ≡ memory u at st.store (below ++ frame_words (base_of u) at.blocks st.frame)
+    pub cells : m.cells ≡ memory u at st.store (below ++ frame_words (setup_base u) at.blocks st.frame)
     pub level : length below ≡ FRAME_WORDS * (st.depth - 1) + FIRST_VARIABLE
     pub open_calls : 1 ≤ st.depth
     pub in_depth : st.depth ≤ u.setting.limits.deep
     pub few : length st.frame ≤ MOST_VARIABLES
     pub registers : length m.regs ≡ 32
-    pub object_is : reg m OBJECT ≡ address_of u at.blocks st.self
+    pub object_is : reg m OBJECT ≡ object_address u at.blocks st.self
     pub frame_is : reg m FRAME ≡ stack_at u + FRAME_WORDS * (st.depth - 1)

@@ -11,11 +11,11 @@ use Rattle.buddy_pisa.specs.pisa_isa.Loaded.{heap_base}
 use Rattle.buddy_pisa.specs.pisa_isa.Machine.{Memory}
 use Rattle.buddy_pisa.specs.paired_code.declared.part.Symbol.{Symbol}
 use Rattle.buddy_pisa.specs.paired_code.declared.part.Symbol.TheVariants.{Enter}
-use Rattle.buddy_pisa.specs.paired_code.Machine.{Image, with_reg}
-use Rattle.buddy_pisa.specs.paired_code.Layout.{xor}
+use Rattle.buddy_pisa.specs.paired_code.Machine.{Image, memory_with_reg}
+use Rattle.buddy_pisa.specs.paired_code.Layout.{bool_xor}
 use Rattle.buddy_pisa.specs.paired_code.Pieces.{Outcome, Done, Will}
 use Rattle.buddy_pisa.proofs.paired_code_laws.Laws.{will_more}
-use Rattle.buddy_pisa.specs.buddy_book.Book.{Book, take, give}
+use Rattle.buddy_pisa.specs.buddy_book.Book.{Book, take, give_back}
 use Rattle.buddy_pisa.specs.buddy_book.Shown.{TakenBlocks, Shown, order_in, weight, cover}
 use Rattle.buddy_pisa.specs.buddy_book.Place.{Placing}
 use Rattle.buddy_pisa.proofs.buddy_book_laws.Orders.{give_gave}
@@ -23,8 +23,8 @@ use Rattle.buddy_pisa.proofs.buddy_book_laws.Kept.{cover-additive, given_back}
 use Rattle.roopl_semantics.specs.Store.{Store}
 use Rattle.roopl_semantics.specs.Layout.{with_book, heap_words, laid}
 use Rattle.buddy_pisa.specs.Held.{AllZero, HoldsBook, ChangesList}
-use Rattle.buddy_pisa.specs.Promise.{Enters, Asks}
-use Rattle.buddy_pisa.specs.Called.{Took, took, Gave, gave, Lacked, lacked, CallLaw}
+use Rattle.buddy_pisa.specs.Promise.{Enters, AllocatorAsks}
+use Rattle.buddy_pisa.specs.Called.{AllocatorTook, took, AllocatorGave, gave, Lacked, lacked, AllocatorCallLaw}
 use Rattle.buddy_pisa.proofs.Calling.{calls_law}
 use Rattle.refine_heap.specs.Laid.{StandApart}
 use Rattle.refine_heap.specs.Calls.{LeavesIn, leaves_in, TrapsFull, traps_full, Calls, LaidCallsLaw}
@@ -61,32 +61,32 @@ module _ (im : Image) (r top : ℕ) (body : List Symbol) (m : Memory) (program :
   holds = subst (λ z. HoldsBook base h placing.book z) (sym c.cells)
       (layout_law program limits statics store placing taken stack c.placed (subst (All IsWord) c.cells c.words))
 
-  asks : (address : ℕ) → Enters m k address → Asks m book k address
+  asks : (address : ℕ) → Enters m k address → AllocatorAsks m book k address
   asks address e = record { from = from; enters = e; kept = c.placed.kept; holds = holds }
 
-  law : CallLaw im r top body m
+  law : AllocatorCallLaw im r top body m
   law = calls_law im r top body m c.routine
 
   take_ends : (block : ℕ) (later : Book) → take placing.book k ≡ Some (block, later) → (o : Outcome)
-      → Took m book k block later o → LeavesIn (record (with_reg m BLOCK (base + block))
+      → AllocatorTook m book k block later o → LeavesIn (record (memory_with_reg m BLOCK (base + block))
       { cells = laid program limits statics store (record { book = later; blocks = placing.blocks }) stack }) h o
   take_ends block later t o (took cells steps some few held zero changes) =
       let is = taken_law program limits statics store placing taken stack k block later cells c.placed from t held zero
       (subst (λ z. ChangesList base h k placing.book z cells) c.cells changes) in
-      subst (λ z. LeavesIn (record (with_reg m BLOCK (base + block)) { cells = z }) h
-      (Done (record (with_reg m BLOCK (base + block)) { cells = cells }) steps)) is (leaves_in steps some few)
+      subst (λ z. LeavesIn (record (memory_with_reg m BLOCK (base + block)) { cells = z }) h
+      (Done (record (memory_with_reg m BLOCK (base + block)) { cells = cells }) steps)) is (leaves_in steps some few)
 
-  laid_takes : (block : ℕ) (later : Book) → xor kind d ≡ false → Enters m k 0
+  laid_takes : (block : ℕ) (later : Book) → bool_xor kind d ≡ false → Enters m k 0
       → take placing.book k ≡ Some (block, later) → Will im (Enter r kind ∷ []) d m
-      (LeavesIn (record (with_reg m BLOCK (base + block)) {
+      (LeavesIn (record (memory_with_reg m BLOCK (base + block)) {
         cells = laid program limits statics store
             (record { book = later; blocks = placing.blocks }) stack;
       }) h)
   laid_takes block later way e t =
-      will_more im (Enter r kind ∷ []) d m (Took m book k block later) _ (λ o w. take_ends block later t o w)
+      will_more im (Enter r kind ∷ []) d m (AllocatorTook m book k block later) _ (λ o w. take_ends block later t o w)
       (law.takes kind d book k block later way (asks 0 e) t)
 
-  laid_lacks : xor kind d ≡ false → Enters m k 0 → take placing.book k ≡ None
+  laid_lacks : bool_xor kind d ≡ false → Enters m k 0 → take placing.book k ≡ None
       → Will im (Enter r kind ∷ []) d m (TrapsFull h)
   laid_lacks way e t =
       will_more im (Enter r kind ∷ []) d m (Lacked book) (TrapsFull h) (λ o w. traps o w)
@@ -97,7 +97,7 @@ module _ (im : Image) (r top : ℕ) (body : List Symbol) (m : Memory) (program :
 
   -- the block that is given back is zero
   given_zero : (block : ℕ) → order_in taken block ≡ Some k
-      → StandApart program (2 ^ h) base store placing.blocks placing.blocks (give placing.book k block)
+      → StandApart program (2 ^ h) base store placing.blocks placing.blocks (give_back placing.book k block)
       → AllZero m.cells (base + block) (base + block + 2 ^ k)
   given_zero block t apart y lo hi =
       let kept = c.placed.kept in
@@ -116,7 +116,7 @@ module _ (im : Image) (r top : ℕ) (body : List Symbol) (m : Memory) (program :
       let n : length zeros ≡ 2 ^ h = length-replicate (2 ^ h) 0 in
       let b = book_other base 2 placing.book zeros (omega arith)
       (subst (λ z. FitLists z 2 placing.book) (sym n) count.fits) in
-      let o = objects_beside program (2 ^ h) base store placing.blocks placing.blocks (give placing.book k block)
+      let o = objects_beside program (2 ^ h) base store placing.blocks placing.blocks (give_back placing.book k block)
       (with_book base placing.book zeros) (b.count ∙ n) apart in
       let word : get_or (heap_words program (2 ^ h) base store placing) x 0 ≡ 0 = o.free x (omega arith)
       ∙ b.other x none ∙ get_or-replicate (2 ^ h) x 0 0 inside in
@@ -129,31 +129,31 @@ module _ (im : Image) (r top : ℕ) (body : List Symbol) (m : Memory) (program :
       covered x block s lo hi = omega arith
 
   give_ends : (block : ℕ) → order_in taken block ≡ Some k
-      → StandApart program (2 ^ h) base store placing.blocks placing.blocks (give placing.book k block) → (o : Outcome)
-      → Gave m book k (give placing.book k (base + block - base)) o
-      → LeavesIn (record (with_reg m BLOCK 0) {
+      → StandApart program (2 ^ h) base store placing.blocks placing.blocks (give_back placing.book k block) → (o : Outcome)
+      → AllocatorGave m book k (give_back placing.book k (base + block - base)) o
+      → LeavesIn (record (memory_with_reg m BLOCK 0) {
         cells = laid program limits statics store
-            (record { book = give placing.book k block; blocks = placing.blocks }) stack;
+            (record { book = give_back placing.book k block; blocks = placing.blocks }) stack;
       }) h o
   give_ends block t apart o (gave cells steps some few held changes) =
       let same : base + block - base ≡ block = omega arith in
-      let held2 : HoldsBook base h (give placing.book k block) cells =
-      subst (λ z. HoldsBook base h (give placing.book k z) cells) same held in
-      let changes2 = subst (λ z. ChangesList base h k (give placing.book k block) z cells) c.cells
-      (subst (λ z. ChangesList base h k (give placing.book k z) m.cells cells) same changes) in
+      let held2 : HoldsBook base h (give_back placing.book k block) cells =
+      subst (λ z. HoldsBook base h (give_back placing.book k z) cells) same held in
+      let changes2 = subst (λ z. ChangesList base h k (give_back placing.book k block) z cells) c.cells
+      (subst (λ z. ChangesList base h k (give_back placing.book k z) m.cells cells) same changes) in
       let is = given_law program limits statics store placing taken stack k block cells c.placed from t apart held2
       changes2 in
-      subst (λ z. LeavesIn (record (with_reg m BLOCK 0) { cells = z }) h
-      (Done (record (with_reg m BLOCK 0) { cells = cells }) steps)) is (leaves_in steps some few)
+      subst (λ z. LeavesIn (record (memory_with_reg m BLOCK 0) { cells = z }) h
+      (Done (record (memory_with_reg m BLOCK 0) { cells = cells }) steps)) is (leaves_in steps some few)
 
-  laid_gives : (block : ℕ) → xor kind d ≡ true → Enters m k (base + block) → order_in taken block ≡ Some k
-      → StandApart program (2 ^ h) base store placing.blocks placing.blocks (give placing.book k block)
-      → Will im (Enter r kind ∷ []) d m (LeavesIn (record (with_reg m BLOCK 0) {
+  laid_gives : (block : ℕ) → bool_xor kind d ≡ true → Enters m k (base + block) → order_in taken block ≡ Some k
+      → StandApart program (2 ^ h) base store placing.blocks placing.blocks (give_back placing.book k block)
+      → Will im (Enter r kind ∷ []) d m (LeavesIn (record (memory_with_reg m BLOCK 0) {
         cells = laid program limits statics store (record
-            { book = give placing.book k block; blocks = placing.blocks }) stack;
+            { book = give_back placing.book k block; blocks = placing.blocks }) stack;
       }) h)
   laid_gives block way e t apart =
-      will_more im (Enter r kind ∷ []) d m (Gave m book k (give placing.book k (base + block - base))) _
+      will_more im (Enter r kind ∷ []) d m (AllocatorGave m book k (give_back placing.book k (base + block - base))) _
       (λ o w. give_ends block t apart o w)
       (law.gives kind d book k (base + block) way (asks (base + block) e)
       (record { block = block; at = refl; with_order = t }) (given_zero block t apart))

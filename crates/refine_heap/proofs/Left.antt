@@ -8,7 +8,7 @@ use Rattle.buddy_pisa.specs.rpp_words.declared.input.TheConstants.{FIXED_CELLS, 
 use Rattle.buddy_pisa.specs.rpp_words.declared.input.Limits.{Limits}
 use Rattle.roopl_semantics.specs.rpp_tree.Tree.{Source}
 use Rattle.buddy_pisa.specs.pisa_isa.Loaded.{statics_at, heap_base, fixed_cells}
-use Rattle.buddy_pisa.specs.buddy_book.Book.{Book, give}
+use Rattle.buddy_pisa.specs.buddy_book.Book.{Book, give_back}
 use Rattle.buddy_pisa.specs.buddy_book.Shown.{with_taken, without_taken, weight, Shown, cover, first_address}
 use Rattle.buddy_pisa.specs.buddy_book.Place.{Placing}
 use Rattle.buddy_pisa.proofs.buddy_book_laws.Orders.{take_took, give_gave}
@@ -325,7 +325,7 @@ given_law program limits statics store placing taken stack k block cells is from
     let back = given_back book k block kept t in
     let to = back.order_to in
     let lists = kept.lists in
-    let later = give placing.book k block in
+    let later = give_back placing.book k block in
     let gave = give_gave h k block placing.book from to lists kept.sound back.aligned back.fits in
     let n2 : length later ≡ h = gave.count ∙ lists in
     let kept2 = give_kept book k block kept from t n2 in

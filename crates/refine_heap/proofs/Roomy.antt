@@ -9,7 +9,7 @@ use Rattle.buddy_pisa.proofs.buddy_book_laws.Kept.{cover-additive, given_back}
 use Rattle.buddy_pisa.proofs.buddy_book_laws.Table.{taken_weight-without}
 use Rattle.roopl_semantics.specs.Store.{Store}
 use Rattle.refine_heap.specs.Laid.{StandApart}
-use Rattle.refine_heap.specs.Rooms.{HaveRoom, NotAmong, RoomLaw}
+use Rattle.refine_heap.specs.Rooms.{HaveRoom, NotAmongBlocks, RoomLaw}
 
 -- no word of a taken block is free
 none_free : (x block s u w v y : ℕ) → v ≡ cover x block s + y → w + v ≡ cover x 0 u → block ≤ x → x < block + s → w ≡ 0
@@ -85,7 +85,7 @@ rooms_with program base store all ((name, b) ∷ rest) block k taken none have =
     differ e f = let z = ap (order_in taken) e in cc
 
 rooms_without : (program : Source) (base : ℕ) (store : Store) (all blocks : List (ℕ × ℕ)) (block : ℕ)
-    (taken : TakenBlocks) → NotAmong block blocks → HaveRoom program base store all blocks taken
+    (taken : TakenBlocks) → NotAmongBlocks block blocks → HaveRoom program base store all blocks taken
     → HaveRoom program base store all blocks (without_taken block taken)
 rooms_without program base store all [] block taken out have = tt
 rooms_without program base store all ((name, b) ∷ rest) block taken out have = (

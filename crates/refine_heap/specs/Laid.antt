@@ -5,7 +5,7 @@ use Rattle.buddy_pisa.specs.rpp_words.Words.{IsWord}
 use Rattle.buddy_pisa.specs.rpp_words.declared.input.Limits.{Limits}
 use Rattle.roopl_semantics.specs.rpp_tree.Tree.{Source}
 use Rattle.buddy_pisa.specs.pisa_isa.Loaded.{heap_base}
-use Rattle.buddy_pisa.specs.buddy_book.Book.{Book, take, give}
+use Rattle.buddy_pisa.specs.buddy_book.Book.{Book, take, give_back}
 use Rattle.buddy_pisa.specs.buddy_book.Shown.{TakenBlocks, order_in, cover, IsKept, weight}
 use Rattle.buddy_pisa.specs.buddy_book.Place.{Placing}
 use Rattle.roopl_semantics.specs.Store.{Store, object_at, main_name}
@@ -13,8 +13,8 @@ use Rattle.roopl_semantics.specs.Layout.{object_words, laid}
 use Rattle.buddy_pisa.specs.Held.{AllZero, HoldsBook, ChangesList}
 
 -- how many words an object has
-abbrev pub words_of : Source → ℕ → Store → List (ℕ × ℕ) → ℕ → ℕ
-words_of program base store all name =
+abbrev pub block_words : Source → ℕ → Store → List (ℕ × ℕ) → ℕ → ℕ
+block_words program base store all name =
     length (object_words program base all (object_at store name))
 
 -- the words of each object are in no free block, and within the heap
@@ -22,8 +22,8 @@ abbrev pub StandApart : Source → (size base : ℕ) → Store → (all blocks :
     → Type 0
 StandApart program size base store all [] book = Unit {0}
 StandApart program size base store all ((name, block) ∷ rest) book =
-    (block + words_of program base store all name ≤ size)
-    × ((x : ℕ) → block ≤ x → x < block + words_of program base store all name
+    (block + block_words program base store all name ≤ size)
+    × ((x : ℕ) → block ≤ x → x < block + block_words program base store all name
     → weight (cover x) 2 book ≡ 0)
     × StandApart program size base store all rest book
 
@@ -34,7 +34,7 @@ StandsBeside program limits statics store blocks book =
     StandApart program (2 ^ limits.heap) base store blocks blocks book
 
 -- a placing: its free lists are kept, its objects are apart from them, and main's object has space
-pub record IsPlaced (program : Source) (limits : Limits) (statics : List ℕ) (store : Store)
+pub record IsHeapPlaced (program : Source) (limits : Limits) (statics : List ℕ) (store : Store)
     (placing : Placing) (taken : TakenBlocks) : Type 0 where
   pub kept : IsKept (record {
     h = limits.heap;
@@ -43,7 +43,7 @@ pub record IsPlaced (program : Source) (limits : Limits) (statics : List ℕ) (s
     taken = taken;
   })
   pub apart : StandsBeside program limits statics store placing.blocks placing.book
-  pub main : words_of program (heap_base limits.heap (length statics)) store placing.blocks
+  pub main : block_words program (heap_base limits.heap (length statics)) store placing.blocks
       main_name
       ≤ length statics
 
@@ -51,7 +51,7 @@ pub record IsPlaced (program : Source) (limits : Limits) (statics : List ℕ) (s
 abbrev pub LayoutLaw : Type 0
 LayoutLaw = (program : Source) (limits : Limits) (statics : List ℕ) (store : Store)
     (placing : Placing) (taken : TakenBlocks) (stack : List ℕ)
-    → IsPlaced program limits statics store placing taken
+    → IsHeapPlaced program limits statics store placing taken
     → All IsWord (laid program limits statics store placing stack)
     → HoldsBook (heap_base limits.heap (length statics)) limits.heap placing.book
     (laid program limits statics store placing stack)
@@ -61,7 +61,7 @@ abbrev pub TakenLaw : Type 0
 TakenLaw = (program : Source) (limits : Limits) (statics : List ℕ) (store : Store)
     (placing : Placing) (taken : TakenBlocks) (stack : List ℕ)
     (k block : ℕ) (after : Book) (cells : List ℕ)
-    → IsPlaced program limits statics store placing taken
+    → IsHeapPlaced program limits statics store placing taken
     → 1 ≤ k → take placing.book k ≡ Some (block, after)
     → HoldsBook (heap_base limits.heap (length statics)) limits.heap after cells
     → AllZero cells (heap_base limits.heap (length statics) + block)
@@ -75,12 +75,12 @@ TakenLaw = (program : Source) (limits : Limits) (statics : List ℕ) (store : St
 abbrev pub GivenLaw : Type 0
 GivenLaw = (program : Source) (limits : Limits) (statics : List ℕ) (store : Store)
     (placing : Placing) (taken : TakenBlocks) (stack : List ℕ) (k block : ℕ) (cells : List ℕ)
-    → IsPlaced program limits statics store placing taken
+    → IsHeapPlaced program limits statics store placing taken
     → 1 ≤ k → order_in taken block ≡ Some k
-    → StandsBeside program limits statics store placing.blocks (give placing.book k block)
-    → HoldsBook (heap_base limits.heap (length statics)) limits.heap (give placing.book k block)
+    → StandsBeside program limits statics store placing.blocks (give_back placing.book k block)
+    → HoldsBook (heap_base limits.heap (length statics)) limits.heap (give_back placing.book k block)
     cells
-    → ChangesList (heap_base limits.heap (length statics)) limits.heap k (give placing.book k block)
+    → ChangesList (heap_base limits.heap (length statics)) limits.heap k (give_back placing.book k block)
     (laid program limits statics store placing stack) cells
     → cells ≡ laid program limits statics store
-    (record { book = give placing.book k block; blocks = placing.blocks }) stack
+    (record { book = give_back placing.book k block; blocks = placing.blocks }) stack

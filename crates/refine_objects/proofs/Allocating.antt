@@ -25,7 +25,7 @@ use Rattle.object_codegen.specs.refine_frame.Open.{IsGrounded}
 use Rattle.object_codegen.proofs.refine_frame_laws.Heaps.{length_words}
 use Rattle.object_codegen.proofs.refine_frame_laws.Memory.{main_long}
 use Rattle.object_codegen.proofs.refine_frame_laws.Tells.{cells_small}
-use Rattle.object_codegen.specs.refine_heap.Laid.{IsPlaced, words_of}
+use Rattle.object_codegen.specs.refine_heap.Laid.{IsHeapPlaced, block_words}
 use Rattle.object_codegen.specs.refine_heap.Rooms.{HaveRoom}
 use Rattle.object_codegen.proofs.refine_heap_laws.Roomy.{room_law}
 use Rattle.object_codegen.specs.refine_form.Frames.{base, before_stack, filled_to, memory}
@@ -95,11 +95,11 @@ module _ (p : Place) (routine : ℕ → Ident → ℕ) (linked : IsLinked p rout
     balanced = k.balanced;
   }
 
-  main_room : words_of P b st.store at.blocks main_name ≤ length p.statics
+  main_room : block_words P b st.store at.blocks main_name ≤ length p.statics
   main_room = let l = main_long (setup p.setting p.statics) extra shape class st t g in let r = g.room in
       omega (arith, l, r)
 
-  heap_placed : IsPlaced P p.setting.limits p.statics st.store at t.placed.taken
+  heap_placed : IsHeapPlaced P p.setting.limits p.statics st.store at t.placed.taken
   heap_placed = record {
     kept = kept_at at.book t.placed.taken t.placed.kept;
     apart = room_law.apart P h b st.store at.blocks at.blocks at.book t.placed.taken
@@ -126,7 +126,7 @@ module _ (p : Place) (routine : ℕ → Ident → ℕ) (linked : IsLinked p rout
     abbrev pub later : Placing
     later = record { book = after; blocks = t.placed.at.blocks }
 
-    later_placed : IsPlaced P p.setting.limits p.statics st.store later later_taken
+    later_placed : IsHeapPlaced P p.setting.limits p.statics st.store later later_taken
     later_placed = record {
       kept = kept_at after later_taken later_kept;
       apart = room_law.apart P h b st.store at.blocks at.blocks after later_taken (kept_at after later_taken later_kept)

@@ -16,7 +16,7 @@ use Rattle.object_codegen.specs.roopl_semantics.Store.{Value, Word, Nil, Head, O
 use Rattle.object_codegen.specs.roopl_semantics.Execution.{all_zero}
 use Rattle.object_codegen.specs.roopl_semantics.Laws.{one_if_name, holders_among}
 use Rattle.object_codegen.specs.roopl_semantics.Layout.{head_word}
-use Rattle.object_codegen.specs.meaning_sound.Sound.{head_fits, fits, cell_kinds, AllFit}
+use Rattle.object_codegen.specs.meaning_sound.Sound.{head_fits, is_of_kind, cell_kinds, AllFit}
 use Rattle.object_codegen.proofs.meaning_sound_laws.Stores.{same_number}
 use Rattle.object_codegen.specs.refine_form.Stands.{HasElements}
 
@@ -27,7 +27,7 @@ pub record Arrays (P : Source) (array element : Kind) (head : ℕ → Head) (fir
   pub kinds : (n : ℕ) → cell_kinds P (head n) ≡ replicate n element
   pub marks : (n : ℕ) → head_word P (head n) ≡ n
   pub some : (n : ℕ) → 0 < n → HasElements (head n)
-  pub fit : (store : Store) → fits P store first element ≡ true
+  pub fit : (store : Store) → is_of_kind P store first element ≡ true
   pub nothing : is_zero first ≡ true
   pub unheld : (m : ℕ) → one_if_name m first ≡ 0
 

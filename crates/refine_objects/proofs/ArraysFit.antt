@@ -15,7 +15,7 @@ use Rattle.object_codegen.specs.rpp_tree.Tree.{Source}
 use Rattle.object_codegen.specs.class_rules.declared.kind.Kind.{Kind}
 use Rattle.object_codegen.specs.class_rules.declared.kind.Kind.TheVariants as kind
 use Rattle.object_codegen.specs.class_rules.Refusal.{not_an_array}
-use Rattle.object_codegen.specs.class_rules.Expressions.{is_int, element_kind, element_of, variable_type, first_token}
+use Rattle.object_codegen.specs.class_rules.Expressions.{is_int, element_kind, element_kind_of, variable_type, first_token}
 use Rattle.object_codegen.specs.class_rules.Expressions.{index_is_int}
 use Rattle.object_codegen.specs.class_rules.Expressions.{type_of, place_type, occurs}
 use Rattle.object_codegen.specs.class_rules.Statements.{is_int_array, length_is_int}
@@ -32,7 +32,7 @@ use Rattle.object_codegen.specs.roopl_semantics.Elements.{elements}
 use Rattle.object_codegen.specs.roopl_semantics.Execution.{exec, freed, order_of_cells, all_zero}
 use Rattle.object_codegen.specs.roopl_semantics.Layout.{head_word}
 use Rattle.object_codegen.specs.meaning_sound.Plain.{HasWords}
-use Rattle.object_codegen.specs.meaning_sound.Sound.{head_of, head_named, head_fits, named_fits, fits, cell_kinds}
+use Rattle.object_codegen.specs.meaning_sound.Sound.{head_of, head_named, head_fits, named_fits, is_of_kind, cell_kinds}
 use Rattle.object_codegen.specs.meaning_sound.Sound.{cell_kind, Typed}
 use Rattle.object_codegen.proofs.meaning_sound_laws.Cells.{read_fits}
 use Rattle.object_codegen.proofs.meaning_sound_laws.Classes.{KnowsClasses}
@@ -55,8 +55,8 @@ use Rattle.object_codegen.specs.expr_uncompute.Code.{place_words}
 use Rattle.object_codegen.specs.register_expressions.Laws.{bases_of}
 use Rattle.object_codegen.specs.expr_uncompute.Means.{shown, cell_address, Means, MeansPlace, SameValues}
 use Rattle.object_codegen.specs.register_expressions.Number.{lvalue_read}
-use Rattle.object_codegen.specs.expr_uncompute.Promises.{free_at, CanRun}
-use Rattle.refine_expressions.specs.Typing.{HasRoom, IsPassed, typing_in, spot_in, free_in}
+use Rattle.object_codegen.specs.expr_uncompute.Promises.{free_at, CanEvaluate}
+use Rattle.refine_expressions.specs.Typing.{HasFrameSpace, IsPassed, typing_in, visible_spot, free_in_scope}
 use Rattle.refine_expressions.proofs.ExpressionsRead.{means, sees, means_place, sees_place, value_is}
 use Rattle.refine_expressions.proofs.FramesWritten.{A, L, R, known, place_kind}
 use Rattle.refine_expressions.proofs.SameReadings.{values_of_reads}
@@ -81,7 +81,7 @@ module _ (p : Place) (routine : ℕ → Ident → ℕ) (linked : IsLinked p rout
     (place_typed : place_type (typing_in p.setting.program s) (shape_of p.setting.program s) (Whole name) ≡ Ok array)
     (size_typed : type_of (typing_in p.setting.program s) (shape_of p.setting.program s) size ≡ Ok kind.Int)
     (apart : occurs name.text size ≡ false) (size_words : HasWords size)
-    (room : HasRoom p.setting.program s (place_words (Whole name) + words size)) where
+    (room : HasFrameSpace p.setting.program s (place_words (Whole name) + words size)) where
   abbrev P : Source
   P = p.setting.program
 
@@ -101,10 +101,10 @@ module _ (p : Place) (routine : ℕ → Ident → ℕ) (linked : IsLinked p rout
   Rel = R p classes s u
 
   abbrev spot : List ℕ → Spot
-  spot = spot_in p.setting.program s
+  spot = visible_spot p.setting.program s
 
   abbrev free : ℕ
-  free = free_in p.setting.program s
+  free = free_in_scope p.setting.program s
 
   abbrev F : ℕ
   F = frame_address p.setting p.statics u
@@ -136,8 +136,8 @@ module _ (p : Place) (routine : ℕ → Ident → ℕ) (linked : IsLinked p rout
     abbrev t : Typed p.setting (extra u []) (shape_of p.setting.program s) s.class st
     t = typed p.setting p.statics s u [] st m.cells rd
 
-    can : CanRun spot free n (lvalue_read (Whole name)) size m
-    can = subst (λ z. CanRun spot free n (lvalue_read (Whole name)) size z) (sym (known p classes s u st m r)) (record {
+    can : CanEvaluate spot free n (lvalue_read (Whole name)) size m
+    can = subst (λ z. CanEvaluate spot free n (lvalue_read (Whole name)) size z) (sym (known p classes s u st m r)) (record {
       ready = ready p few classes s u st m.cells rd n 0 0 room;
       first = sees_place p.setting p.statics few classes s u st m.cells rd (Whole name) array tt place_typed;
       second = sees p.setting p.statics few classes s u st m.cells rd size kind.Int size_words size_typed;
@@ -176,7 +176,7 @@ module _ (p : Place) (routine : ℕ → Ident → ℕ) (linked : IsLinked p rout
       headed = ap (option_map head_of) (live_object st.store k f.live)
 
       head_fit : head_fits P array (object_at st.store k).head ≡ true
-      head_fit = ap (named_fits P array) (sym headed) ∙ subst (λ v. fits P st.store v array ≡ true) named
+      head_fit = ap (named_fits P array) (sym headed) ∙ subst (λ v. is_of_kind P st.store v array ≡ true) named
           (read_fits p.setting (extra u []) (shape_of P s) s.class st (own st) array t has)
 
       many_kinds : length (object_at st.store k).cells ≡ length (cell_kinds P (object_at st.store k).head)
@@ -302,7 +302,7 @@ no_item : (P : Source) (s : Scope) (name : Ident) (index : Expression) (array el
     ≡ Ok array → ⊥
 no_item P s name index array element head first arrays h =
     let outer = handed_on (variable_type (typing_in P s) (shape_of P s) name) _ array h in
-    let inner = handed_on (element_of name outer.value) _ array outer.goes in
+    let inner = handed_on (element_kind_of name outer.value) _ array outer.goes in
     let at = handed_on (type_of (typing_in P s) (shape_of P s) index) _ array inner.goes in
     no_element P array element head first arrays outer.value
     (some_of (element_kind outer.value) (not_an_array name.at) inner.value inner.is
@@ -324,11 +324,11 @@ Parts p s made target = MakeParts (typing_in p.setting.program s) (shape_of p.se
 module _ (p : Place) (routine : ℕ → Ident → ℕ) (linked : IsLinked p routine) (s : Scope) (size : Expression) where
   -- arrays of int
   ints_facts : (u : Under) (name : Ident) → Parts p s (Ints size) (Whole name) → HasWords size
-      → HasRoom p.setting.program s (place_words (Whole name) + words size)
+      → HasFrameSpace p.setting.program s (place_words (Whole name) + words size)
       → facts.ArrayFacts p.setting (A p (known_classes p.setting.program linked.accepted) s u)
       (L p (known_classes p.setting.program linked.accepted) s u)
-      (R p (known_classes p.setting.program linked.accepted) s u) (spot_in p.setting.program s)
-      (free_in p.setting.program s) u.object (frame_address p.setting p.statics u) p.im OfInts (Word 0) name size
+      (R p (known_classes p.setting.program linked.accepted) s u) (visible_spot p.setting.program s)
+      (free_in_scope p.setting.program s) u.object (frame_address p.setting p.statics u) p.im OfInts (Word 0) name size
   ints_facts u name m has_words room =
       array_facts p routine linked s u name size m.type kind.Int OfInts (Word 0)
       (ints_in p.setting.program m.type m.takes_it) m.is (int_length p.setting.program s size m.int) m.length
@@ -336,13 +336,13 @@ module _ (p : Place) (routine : ℕ → Ident → ℕ) (linked : IsLinked p rout
 
   pub new_ints_fits : (at : ℕ) (target : Lvalue) → IsPassed p.setting.program s (New at (Ints size) target)
       (creation_words (Ints size) target) → (q : List Symbol)
-      → ArrayLaw (spot_in p.setting.program s) (free_in p.setting.program s) target size q
+      → ArrayLaw (visible_spot p.setting.program s) (free_in_scope p.setting.program s) target size q
       → StmtLaw (world_of p) s (New at (Ints size) target) q
   new_ints_fits at (Whole name) ok q law n owes d u =
       new_ints_does p.setting (A p (known_classes p.setting.program linked.accepted) s u)
       (L p (known_classes p.setting.program linked.accepted) s u)
-      (R p (known_classes p.setting.program linked.accepted) s u) (spot_in p.setting.program s)
-      (free_in p.setting.program s) u.object (frame_address p.setting p.statics u) p.im name size
+      (R p (known_classes p.setting.program linked.accepted) s u) (visible_spot p.setting.program s)
+      (free_in_scope p.setting.program s) u.object (frame_address p.setting p.statics u) p.im name size
       (rates_of p.setting) (some_counts _) (omega arith) q law (suc n)
       (ints_facts u name (make_parts (typing_in p.setting.program s) (shape_of p.setting.program s) at (Ints size)
       (Whole name) ok.rules) ok.has_words.0 ok.room) d at n (exec p.setting n)
@@ -354,13 +354,13 @@ module _ (p : Place) (routine : ℕ → Ident → ℕ) (linked : IsLinked p rout
 
   pub delete_ints_fits : (at : ℕ) (target : Lvalue) → IsPassed p.setting.program s (Delete at (Ints size) target)
       (creation_words (Ints size) target) → (q : List Symbol)
-      → ArrayLaw (spot_in p.setting.program s) (free_in p.setting.program s) target size q
+      → ArrayLaw (visible_spot p.setting.program s) (free_in_scope p.setting.program s) target size q
       → StmtLaw (world_of p) s (Delete at (Ints size) target) (mirror_cells q)
   delete_ints_fits at (Whole name) ok q law n owes d u =
       delete_ints_does p.setting (A p (known_classes p.setting.program linked.accepted) s u)
       (L p (known_classes p.setting.program linked.accepted) s u)
-      (R p (known_classes p.setting.program linked.accepted) s u) (spot_in p.setting.program s)
-      (free_in p.setting.program s) u.object (frame_address p.setting p.statics u) p.im name size
+      (R p (known_classes p.setting.program linked.accepted) s u) (visible_spot p.setting.program s)
+      (free_in_scope p.setting.program s) u.object (frame_address p.setting p.statics u) p.im name size
       (rates_of p.setting) (some_counts _) (omega arith) q law (suc n)
       (ints_facts u name (make_parts (typing_in p.setting.program s) (shape_of p.setting.program s) at (Ints size)
       (Whole name) ok.rules) ok.has_words.0 ok.room) d at n (exec p.setting n)
@@ -377,11 +377,11 @@ module _ (p : Place) (routine : ℕ → Ident → ℕ) (linked : IsLinked p rout
     in_class target m = of_objects p.setting.program class m.type m.takes_it
 
     objects_facts : (u : Under) (name : Ident) → Parts p s (Objects class size) (Whole name) → HasWords size
-        → HasRoom p.setting.program s (place_words (Whole name) + words size)
+        → HasFrameSpace p.setting.program s (place_words (Whole name) + words size)
         → facts.ArrayFacts p.setting (A p (known_classes p.setting.program linked.accepted) s u)
         (L p (known_classes p.setting.program linked.accepted) s u)
-        (R p (known_classes p.setting.program linked.accepted) s u) (spot_in p.setting.program s)
-        (free_in p.setting.program s) u.object (frame_address p.setting p.statics u) p.im
+        (R p (known_classes p.setting.program linked.accepted) s u) (visible_spot p.setting.program s)
+        (free_in_scope p.setting.program s) u.object (frame_address p.setting p.statics u) p.im
         (OfObjects (facts.number_in p.setting class)) Nil name size
     objects_facts u name m has_words room =
         let o = in_class (Whole name) m in
@@ -390,13 +390,13 @@ module _ (p : Place) (routine : ℕ → Ident → ℕ) (linked : IsLinked p rout
 
     pub new_objects_fits : (at : ℕ) (target : Lvalue) → IsPassed p.setting.program s
         (New at (Objects class size) target) (creation_words (Objects class size) target) → (q : List Symbol)
-        → ArrayLaw (spot_in p.setting.program s) (free_in p.setting.program s) target size q
+        → ArrayLaw (visible_spot p.setting.program s) (free_in_scope p.setting.program s) target size q
         → StmtLaw (world_of p) s (New at (Objects class size) target) q
     new_objects_fits at (Whole name) ok q law n owes d u =
         new_objects_does p.setting (A p (known_classes p.setting.program linked.accepted) s u)
         (L p (known_classes p.setting.program linked.accepted) s u)
-        (R p (known_classes p.setting.program linked.accepted) s u) (spot_in p.setting.program s)
-        (free_in p.setting.program s) u.object (frame_address p.setting p.statics u) p.im name size
+        (R p (known_classes p.setting.program linked.accepted) s u) (visible_spot p.setting.program s)
+        (free_in_scope p.setting.program s) u.object (frame_address p.setting p.statics u) p.im name size
         (rates_of p.setting) (some_counts _) (omega arith) q law (suc n)
         class (objects_facts u name (make_parts (typing_in p.setting.program s) (shape_of p.setting.program s) at
         (Objects class size) (Whole name) ok.rules) ok.has_words.0 ok.room) d at n (exec p.setting n)
@@ -409,13 +409,13 @@ module _ (p : Place) (routine : ℕ → Ident → ℕ) (linked : IsLinked p rout
 
     pub delete_objects_fits : (at : ℕ) (target : Lvalue) → IsPassed p.setting.program s
         (Delete at (Objects class size) target) (creation_words (Objects class size) target) → (q : List Symbol)
-        → ArrayLaw (spot_in p.setting.program s) (free_in p.setting.program s) target size q
+        → ArrayLaw (visible_spot p.setting.program s) (free_in_scope p.setting.program s) target size q
         → StmtLaw (world_of p) s (Delete at (Objects class size) target) (mirror_cells q)
     delete_objects_fits at (Whole name) ok q law n owes d u =
         delete_objects_does p.setting (A p (known_classes p.setting.program linked.accepted) s u)
         (L p (known_classes p.setting.program linked.accepted) s u)
-        (R p (known_classes p.setting.program linked.accepted) s u) (spot_in p.setting.program s)
-        (free_in p.setting.program s) u.object (frame_address p.setting p.statics u) p.im name size
+        (R p (known_classes p.setting.program linked.accepted) s u) (visible_spot p.setting.program s)
+        (free_in_scope p.setting.program s) u.object (frame_address p.setting p.statics u) p.im name size
         (rates_of p.setting) (some_counts _) (omega arith) q law (suc n)
         class (objects_facts u name (make_parts (typing_in p.setting.program s) (shape_of p.setting.program s) at
         (Objects class size) (Whole name) ok.rules) ok.has_words.0 ok.room) d at n (exec p.setting n)

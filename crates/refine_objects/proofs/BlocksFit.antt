@@ -56,13 +56,13 @@ use Rattle.refine_expressions.specs.refine_calls.Laws.{IsLinked}
 use Rattle.refine_expressions.proofs.refine_calls_laws.Bridge.{same_at, typed, reads_of, before_long, as_many_vars}
 use Rattle.refine_expressions.proofs.refine_calls_laws.FramePlaces.{frame_small, object_small}
 use Rattle.refine_expressions.proofs.refine_calls_laws.MovesFit.{frame_address, frame_long, place_of, cell_low}
-use Rattle.refine_expressions.specs.Typing.{spot_in, free_in}
+use Rattle.refine_expressions.specs.Typing.{visible_spot, free_in_scope}
 use Rattle.refine_expressions.proofs.FrameReads.{memory_is}
 use Rattle.refine_expressions.proofs.FramesWritten.{A, L, R, known, address_is, place_is, cell_holds}
 use Rattle.refine_expressions.proofs.WordsRead.{shown_read}
 use Rattle.object_codegen.specs.declared.shape.Shape.{Shape}
-use Rattle.object_codegen.specs.Code.{mark_of, size_of}
-use Rattle.object_codegen.specs.News.{Allocates, Lacks, Takes, filled}
+use Rattle.object_codegen.specs.Code.{mark_of, block_size_of}
+use Rattle.object_codegen.specs.News.{Allocates, Lacks, Takes, filled_words}
 use Rattle.object_codegen.proofs.CopyRows.{Refers}
 use Rattle.object_codegen.proofs.MakeFacts.{made, log_with, is_full, length_at, is_empty, KeepsNames, StandsThere}
 use Rattle.object_codegen.proofs.MakeFacts.{TakesBlock, GivesBlock}
@@ -128,10 +128,10 @@ module _ (p : Place) (routine : ℕ → Ident → ℕ) (linked : IsLinked p rout
   Rel = R p classes s u
 
   abbrev spot : List ℕ → Spot
-  spot = spot_in P s
+  spot = visible_spot P s
 
   abbrev free : ℕ
-  free = free_in P s
+  free = free_in_scope P s
 
   abbrev F : ℕ
   F = frame_address p.setting p.statics u
@@ -395,7 +395,7 @@ module _ (p : Place) (routine : ℕ → Ident → ℕ) (linked : IsLinked p rout
 
         -- the heap has one
         pub takes_block : (size v order n : ℕ) (shape : Shape) → size ≡ length (cell_kinds P head)
-            → order ≡ order_of_cells (length (cell_kinds P head)) → size_of v shape ≡ length values
+            → order ≡ order_of_cells (length (cell_kinds P head)) → block_size_of v shape ≡ length values
             → mark_of v shape ≡ head_word P head → v < 2 ^ 32 → order < 2 ^ 32 → IsLeft v shape
             → TakesBlock p.setting Ad Sl Rel spot free u.object F p.im st (made size head values cell st) m at v order n
             shape
@@ -408,7 +408,7 @@ module _ (p : Place) (routine : ℕ → Ident → ℕ) (linked : IsLinked p rout
                   elements not_full mark_small small;
               taken = news.taken p.setting p.statics s u st m.cells h cell k has empty head values fit_head fit none
                   zeros elements not_full mark_small small;
-              takes = subst (λ a. Takes a (size_of v shape) at
+              takes = subst (λ a. Takes a (block_size_of v shape) at
                   (news.x p.setting p.statics s u st m.cells h cell k has empty head values fit_head fit none zeros
                   elements not_full mark_small small) m.cells (news.taken p.setting p.statics s u st m.cells h cell
                   k has empty head values fit_head fit none zeros elements not_full mark_small small)) (sym low_is)
@@ -426,12 +426,12 @@ module _ (p : Place) (routine : ℕ → Ident → ℕ) (linked : IsLinked p rout
               after = record {
                 regs_are = r.regs_are;
                 open_frame = subst (λ w. Stands p.setting p.statics s u [] later
-                    (filled at (news.x p.setting p.statics s u st m.cells h cell k has empty head values fit_head fit
+                    (filled_words at (news.x p.setting p.statics s u st m.cells h cell k has empty head values fit_head fit
                     none zeros elements not_full mark_small small) w
                     (news.taken p.setting p.statics s u st m.cells h cell k has empty head values fit_head fit none
                     zeros elements not_full mark_small small))) (sym marked)
                     (subst (λ q. Stands p.setting p.statics s u [] later
-                    (filled q (news.x p.setting p.statics s u st m.cells h cell k has empty head values fit_head
+                    (filled_words q (news.x p.setting p.statics s u st m.cells h cell k has empty head values fit_head
                     fit none zeros elements not_full mark_small small) (head_word P head)
                     (news.taken p.setting p.statics s u st m.cells h cell k has empty head values fit_head fit
                     none zeros elements not_full mark_small small))) (cell_at cell)
@@ -470,18 +470,18 @@ module _ (p : Place) (routine : ℕ → Ident → ℕ) (linked : IsLinked p rout
             ∙ sym (address_is p classes s u st m.cells rd n)
 
         was : (w : ℕ) → w ≡ gone.mark p.setting p.statics s u st m.cells h cell k has no_int n reads single zeros
-            → m.cells ≡ filled at (Ad st n) w (gone.taken p.setting p.statics s u st m.cells h cell k has no_int n reads
+            → m.cells ≡ filled_words at (Ad st n) w (gone.taken p.setting p.statics s u st m.cells h cell k has no_int n reads
             single zeros)
         was w marked =
             gone.was p.setting p.statics s u st m.cells h cell k has no_int n reads single zeros
-            ∙ ap (λ q. filled q (gone.x p.setting p.statics s u st m.cells h cell k has no_int n reads single zeros)
+            ∙ ap (λ q. filled_words q (gone.x p.setting p.statics s u st m.cells h cell k has no_int n reads single zeros)
             (gone.mark p.setting p.statics s u st m.cells h cell k has no_int n reads single zeros)
             (gone.taken p.setting p.statics s u st m.cells h cell k has no_int n reads single zeros))
             (place_is p classes s u st m.cells rd cell)
-            ∙ ap (λ y. filled at y (gone.mark p.setting p.statics s u st m.cells h cell k has no_int n reads single
+            ∙ ap (λ y. filled_words at y (gone.mark p.setting p.statics s u st m.cells h cell k has no_int n reads single
             zeros) (gone.taken p.setting p.statics s u st m.cells h cell k has no_int n reads single zeros))
             x_is
-            ∙ ap (λ z. filled at (Ad st n) z (gone.taken p.setting p.statics s u st m.cells h cell k has no_int n reads
+            ∙ ap (λ z. filled_words at (Ad st n) z (gone.taken p.setting p.statics s u st m.cells h cell k has no_int n reads
             single zeros)) (sym marked)
 
         given_takes : Takes low (length (object_at st.store n).cells) at (Ad st n)
@@ -498,7 +498,7 @@ module _ (p : Place) (routine : ℕ → Ident → ℕ) (linked : IsLinked p rout
             (place_is p classes s u st m.cells rd cell) (gone.takes p.setting p.statics s u st m.cells h cell k
             has no_int n reads single zeros small))
 
-        filled_long : (a x w : ℕ) (zs : List ℕ) → length (filled a x w zs) ≡ length zs
+        filled_long : (a x w : ℕ) (zs : List ℕ) → length (filled_words a x w zs) ≡ length zs
         filled_long a x w zs = length-set (slice_set (slice_set zs x w) (x + COUNT_WORD) 1) a x
             ∙ length-set (slice_set zs x w) (x + COUNT_WORD) 1 ∙ length-set zs x w
 
@@ -610,7 +610,7 @@ module _ (p : Place) (routine : ℕ → Ident → ℕ) (linked : IsLinked p rout
 
         pub gives_block : (v order nn : ℕ) (shape : Shape) → order
             ≡ order_of_cells (length (cell_kinds P (object_at st.store n).head))
-            → size_of v shape ≡ length (object_at st.store n).cells
+            → block_size_of v shape ≡ length (object_at st.store n).cells
             → mark_of v shape ≡ head_word P (object_at st.store n).head → v < 2 ^ 32 → order < 2 ^ 32 → IsLeft v shape
             → GivesBlock p.setting Ad Sl Rel spot free u.object F p.im st (freed p.setting cell n st) m at (Ad st n) v
             order nn shape
@@ -620,7 +620,7 @@ module _ (p : Place) (routine : ℕ → Ident → ℕ) (linked : IsLinked p rout
               given = gone.given p.setting p.statics s u st m.cells h cell k has no_int n reads single zeros;
               taken = gone.taken p.setting p.statics s u st m.cells h cell k has no_int n reads single zeros;
               was = was (mark_of v shape) marked;
-              takes = subst (λ a. Takes a (size_of v shape) at (Ad st n)
+              takes = subst (λ a. Takes a (block_size_of v shape) at (Ad st n)
                   (gone.given p.setting p.statics s u st m.cells h cell k has no_int n reads single zeros)
                   (gone.taken p.setting p.statics s u st m.cells h cell k has no_int n reads single zeros))
                   (sym low_is)

@@ -15,7 +15,7 @@ use Rattle.object_codegen.specs.roopl_semantics.Store.{Value, Word, Nil, Name, O
 use Rattle.object_codegen.specs.roopl_semantics.Store.{object_at, no_object}
 use Rattle.object_codegen.specs.roopl_semantics.Laws.{one_if_name, holders, holders_among}
 use Rattle.object_codegen.specs.roopl_semantics.Execution.{Setting, order_of_cells}
-use Rattle.object_codegen.specs.meaning_sound.Sound.{head_of, head_named, cell_kinds, AllFit, Descending, entry_name, value_of, held}
+use Rattle.object_codegen.specs.meaning_sound.Sound.{head_of, head_named, cell_kinds, AllFit, Descending, entry_name, bound_value, held}
 use Rattle.object_codegen.specs.meaning_sound.Sound.{IsPlaced}
 use Rattle.object_codegen.proofs.meaning_sound_laws.Lists.{all_length}
 use Rattle.object_codegen.proofs.meaning_sound_laws.Regions.{BlocksDescend, EntriesAre, NotAt, block_apart, room_of, blocks_descend}
@@ -23,7 +23,7 @@ use Rattle.object_codegen.proofs.meaning_sound_laws.Regions.{entries_are}
 use Rattle.object_codegen.proofs.meaning_sound_laws.Stores.{here, there, other_number, same_number, below_bound, live_named}
 use Rattle.object_codegen.proofs.refine_frame_laws.Memory.{main_cells}
 use Rattle.object_codegen.specs.refine_form.Form.{Scope}
-use Rattle.object_codegen.specs.refine_form.Frames.{Caller, Under, CallersStand}
+use Rattle.object_codegen.specs.refine_form.Frames.{CallerFrame, Under, CallersStand}
 use Rattle.object_codegen.specs.refine_form.Stands.{shape_of, extra, below_held, receiver_held, main_held, setup, Reads}
 use Rattle.refine_expressions.proofs.refine_calls_laws.Bridge.{typed}
 use Rattle.object_codegen.specs.pisa_isa.declared.image.TheConstants.{MOST_STATICS}
@@ -149,12 +149,12 @@ module _ (setting : Setting) (statics : List ℕ) where
       by true = omega arith
       by false = omega arith
 
-  below_most : (name : ℕ) (at : Placing) (store : Store) (callers : List Caller)
+  below_most : (name : ℕ) (at : Placing) (store : Store) (callers : List CallerFrame)
       → CallersStand setting statics at store callers → below_held name callers ≤ 49 * length callers
   below_most name at store [] h = omega arith
   below_most name at store (c ∷ callers) h =
-      let a = among_most name (map value_of c.frame) in
-      let b = length-map c.frame value_of in
+      let a = among_most name (map bound_value c.frame) in
+      let b = length-map c.frame bound_value in
       let d = receiver_most name c.self c.put_by in
       let e = below_most name at store callers h.3 in
       let f = h.2 in
@@ -173,8 +173,8 @@ module _ (setting : Setting) (statics : List ℕ) where
       let big = two_power setting.limits.heap h.keeps.grounded.limits.heap_to in
       let small : 2 ^ 20 ≡ 1048576 = refl in
       let deep = h.keeps.grounded.limits.deep_to in
-      let d = among_most name (map value_of st.frame) in
-      let e = length-map st.frame value_of in
+      let d = among_most name (map bound_value st.frame) in
+      let e = length-map st.frame bound_value in
       let f = h.frame.few in
       let g = main_most name in
       let i = receiver_most name u.self u.put_by in

@@ -7,7 +7,7 @@ use Rattle.object_codegen.specs.rpp_tree.declared.tree.VarType.{VarType}
 use Rattle.object_codegen.specs.rpp_tree.Tree.{Lvalue, Copy, Uncopy, Source}
 use Rattle.object_codegen.specs.class_rules.declared.kind.Kind.{Kind}
 use Rattle.object_codegen.specs.class_rules.Expressions.{is_int}
-use Rattle.object_codegen.specs.class_rules.Statements.{passed, copy_rules}
+use Rattle.object_codegen.specs.class_rules.Statements.{verdict_passed, copy_rules}
 use Rattle.object_codegen.specs.buddy_book.Place.{Placing}
 use Rattle.object_codegen.specs.pisa_isa.Machine.{Memory}
 use Rattle.object_codegen.specs.pisa_isa.declared.image.TheConstants.{MOST_STATICS}
@@ -16,9 +16,9 @@ use Rattle.object_codegen.specs.paired_code.Layout.{mirror_cells}
 use Rattle.object_codegen.specs.roopl_semantics.Store.{Value, Word, Nil, Name, State, object_at}
 use Rattle.object_codegen.specs.roopl_semantics.Value.{Cell, read, written, cell_of}
 use Rattle.object_codegen.specs.roopl_semantics.Elements.{index_elements, own_element, share_array}
-use Rattle.object_codegen.specs.roopl_semantics.Execution.{counted, one_less, exec, same_cell}
+use Rattle.object_codegen.specs.roopl_semantics.Execution.{count_changed, one_less, exec, same_cell}
 use Rattle.object_codegen.specs.meaning_sound.Plain.{PlaceHasWords}
-use Rattle.object_codegen.specs.meaning_sound.Sound.{cell_kind, fits, Typed}
+use Rattle.object_codegen.specs.meaning_sound.Sound.{cell_kind, is_of_kind, Typed}
 use Rattle.object_codegen.proofs.meaning_sound_laws.AfterWrites.{same_cell_is}
 use Rattle.object_codegen.proofs.meaning_sound_laws.Cells.{read_fits}
 use Rattle.object_codegen.proofs.meaning_sound_laws.Classes.{KnowsClasses}
@@ -32,12 +32,12 @@ use Rattle.object_codegen.specs.expr_uncompute.Code.{place_words}
 use Rattle.object_codegen.specs.register_expressions.Laws.{bases_of}
 use Rattle.object_codegen.specs.expr_uncompute.Means.{shown, cell_address, MeansPlace, TellsShares}
 use Rattle.object_codegen.specs.register_expressions.Number.{lvalue_read, index_of}
-use Rattle.object_codegen.specs.expr_uncompute.Promises.{free_at, CanRun}
+use Rattle.object_codegen.specs.expr_uncompute.Promises.{free_at, CanEvaluate}
 use Rattle.object_codegen.specs.Promises.{CopyLaw, referring, unreferring}
 use Rattle.object_codegen.proofs.CopyRows as rows
 use Rattle.refine_expressions.proofs.refine_calls_laws.Bridge.{same_at, typed, reads_of}
 use Rattle.refine_expressions.proofs.refine_calls_laws.MovesFit.{place_of}
-use Rattle.refine_expressions.specs.Typing.{HasRoom, IsPassed, typing_in, spot_in, free_in}
+use Rattle.refine_expressions.specs.Typing.{HasFrameSpace, IsPassed, typing_in, visible_spot, free_in_scope}
 use Rattle.refine_expressions.proofs.ArraysTold.{tells_shares, index_typed}
 use Rattle.refine_expressions.proofs.ExpressionsRead.{means_place, sees_place}
 use Rattle.refine_expressions.proofs.FramesWritten.{A, L, R, known, address_is, place_is, cell_holds, place_kind}
@@ -53,9 +53,9 @@ use Rattle.refine_expressions.proofs.meaning_inverse_laws.Facts.{CopyTyped, copy
 
 module _ (p : Place) (few : length p.statics ≤ MOST_STATICS) (classes : KnowsClasses p.setting.program) (s : Scope)
     (u : Under) (at : ℕ) (kind : VarType) (source target : Lvalue)
-    (rules : copy_rules (typing_in p.setting.program s) (shape_of p.setting.program s) at kind source target ≡ passed)
+    (rules : copy_rules (typing_in p.setting.program s) (shape_of p.setting.program s) at kind source target ≡ verdict_passed)
     (source_words : PlaceHasWords source) (target_words : PlaceHasWords target)
-    (room : HasRoom p.setting.program s (place_words source + place_words target)) where
+    (room : HasFrameSpace p.setting.program s (place_words source + place_words target)) where
   abbrev P : Source
   P = p.setting.program
 
@@ -69,10 +69,10 @@ module _ (p : Place) (few : length p.statics ≤ MOST_STATICS) (classes : KnowsC
   Rel = R p classes s u
 
   abbrev spot : List ℕ → Spot
-  spot = spot_in P s
+  spot = visible_spot P s
 
   abbrev free : ℕ
-  free = free_in P s
+  free = free_in_scope P s
 
   module _ (st : State) (m : Memory) (r : Rel st m) where
     abbrev h : Reads p.setting p.statics s u [] st m.cells
@@ -93,8 +93,8 @@ module _ (p : Place) (few : length p.statics ≤ MOST_STATICS) (classes : KnowsC
     abbrev second : Kind
     second = typing.parts.second
 
-    can : CanRun spot free (place_words source + place_words target) (lvalue_read source) (lvalue_read target) m
-    can = subst (λ z. CanRun spot free (place_words source + place_words target) (lvalue_read source)
+    can : CanEvaluate spot free (place_words source + place_words target) (lvalue_read source) (lvalue_read target) m
+    can = subst (λ z. CanEvaluate spot free (place_words source + place_words target) (lvalue_read source)
         (lvalue_read target) z)
         (sym (known p classes s u st m r)) (record {
           ready = ready p few classes s u st m.cells h (place_words source + place_words target) 0 0 room;
@@ -200,20 +200,20 @@ module _ (p : Place) (few : length p.statics ≤ MOST_STATICS) (classes : KnowsC
       places : (v : Value) (n : ℕ) (change : ℕ → ℕ) → share_array P st (own_element target)
           (index_elements source ++ index_elements target) ≡ false
           → PlacesCopied p.setting classes (context p classes s u st m.cells h) source target st
-          (counted change (written st b v) n)
+          (count_changed change (written st b v) n)
       places v n change e = places_copied p.setting classes (context p classes s u st m.cells h) source target st b v n
           change t typing nb e
 
       keeps : (v : Value) (n : ℕ) (change : ℕ → ℕ) → share_array P st (own_element target)
           (index_elements source ++ index_elements target) ≡ false
-          → rows.Keeps p.setting Ad Sl Rel spot free source target st (counted change (written st b v) n)
+          → rows.Keeps p.setting Ad Sl Rel spot free source target st (count_changed change (written st b v) n)
       keeps v n change e =
           let q = places v n change e in
           record {
             addresses = λ k. same_names p classes s u st b v k;
             slots = λ i. same_slots p classes s u st b v i;
-            source_same = cells_of_place P st (counted change (written st b v) n) source q.source_same;
-            target_same = cells_of_place P st (counted change (written st b v) n) target q.target_same;
+            source_same = cells_of_place P st (count_changed change (written st b v) n) source q.source_same;
+            target_same = cells_of_place P st (count_changed change (written st b v) n) target q.target_same;
             apart = q.apart;
           }
 
@@ -251,8 +251,8 @@ module _ (p : Place) (few : length p.statics ≤ MOST_STATICS) (classes : KnowsC
             let c = cells_small (setup p.setting p.statics) h.keeps.grounded.limits few in
             omega (arith, e, l, c)
 
-        fit : fits P st.store (Name n) second ≡ true
-        fit = typing.parts.below st.store n (subst (λ v. fits P st.store v first ≡ true) ea
+        fit : is_of_kind P st.store (Name n) second ≡ true
+        fit = typing.parts.below st.store n (subst (λ v. is_of_kind P st.store v first ≡ true) ea
             (read_fits p.setting (extra u []) (shape_of P s) s.class st a first t kind_a))
 
         -- the cells after a write of a word for a reference, and of a count
@@ -269,25 +269,25 @@ module _ (p : Place) (few : length p.statics ≤ MOST_STATICS) (classes : KnowsC
             (sym (address_is p classes s u st m.cells h n))
             ∙ ap (slice_set (slice_set m.cells (cell_address (Ad st) (Sl st) b) w') (Ad st n + 1)) d
 
-        copied : read st b ≡ Nil → Rel (counted suc (written st b (Name n)) n)
+        copied : read st b ≡ Nil → Rel (count_changed suc (written st b (Name n)) n)
             (record m { cells = referring (cell_address (Ad st) (Sl st) b) (Ad st n) (count + 1) m.cells })
         copied eb =
             let c : suc count ≡ count + 1 = omega arith in
             record {
               regs_are = r.regs_are;
-              open_frame = subst (λ z. Stands p.setting p.statics s u [] (counted suc (written st b (Name n)) n) z)
+              open_frame = subst (λ z. Stands p.setting p.statics s u [] (count_changed suc (written st b (Name n)) n) z)
                   (cells_by (value_word p.setting p.statics h.frame.at (Name n)) (Ad st n) (suc count) (count + 1)
                   (name_word n f) c)
                   (copied_stands p.setting p.statics s u st m.cells r.open_frame a b first second kind_a kind_b n f ea
                   eb fit word_small small);
             }
 
-        uncopied : read st b ≡ Name n → Rel (counted one_less (written st b Nil) n)
+        uncopied : read st b ≡ Name n → Rel (count_changed one_less (written st b Nil) n)
             (record m { cells = unreferring (cell_address (Ad st) (Sl st) b) (Ad st n) (count - 1) m.cells })
         uncopied eb =
             record {
               regs_are = r.regs_are;
-              open_frame = subst (λ z. Stands p.setting p.statics s u [] (counted one_less (written st b Nil) n) z)
+              open_frame = subst (λ z. Stands p.setting p.statics s u [] (count_changed one_less (written st b Nil) n) z)
                   (cells_by 0 0 (count - 1) (count - 1) refl refl)
                   (uncopied_stands p.setting p.statics s u st m.cells r.open_frame a b first second kind_a kind_b n f ea
                   eb typing.parts.second_refers small);
@@ -320,11 +320,11 @@ module _ (p : Place) (few : length p.statics ≤ MOST_STATICS) (classes : KnowsC
 pub copy_fits : (p : Place) → length p.statics ≤ MOST_STATICS → KnowsClasses p.setting.program
     → (s : Scope) (at : ℕ) (kind : VarType) (source target : Lvalue)
     → IsPassed p.setting.program s (Copy at kind source target) (place_words source + place_words target)
-    → (q : List Symbol) → CopyLaw (spot_in p.setting.program s) (free_in p.setting.program s) source target q
+    → (q : List Symbol) → CopyLaw (visible_spot p.setting.program s) (free_in_scope p.setting.program s) source target q
     → StmtLaw (world_of p) s (Copy at kind source target) q
 copy_fits p few classes s at kind source target ok q law n owes d u =
-    rows.copy_does p.setting (A p classes s u) (L p classes s u) (R p classes s u) (spot_in p.setting.program s)
-    (free_in p.setting.program s) source target (rates_of p.setting) (some_counts _) (omega arith) q law
+    rows.copy_does p.setting (A p classes s u) (L p classes s u) (R p classes s u) (visible_spot p.setting.program s)
+    (free_in_scope p.setting.program s) source target (rates_of p.setting) (some_counts _) (omega arith) q law
     (facts p few classes s u at kind source target ok.rules ok.has_words.0 ok.has_words.1 ok.room) p.im (suc n) d at n
     kind (exec p.setting n)
 
@@ -332,10 +332,10 @@ copy_fits p few classes s at kind source target ok q law n owes d u =
 pub uncopy_fits : (p : Place) → length p.statics ≤ MOST_STATICS → KnowsClasses p.setting.program
     → (s : Scope) (at : ℕ) (kind : VarType) (source target : Lvalue)
     → IsPassed p.setting.program s (Uncopy at kind source target) (place_words source + place_words target)
-    → (q : List Symbol) → CopyLaw (spot_in p.setting.program s) (free_in p.setting.program s) source target q
+    → (q : List Symbol) → CopyLaw (visible_spot p.setting.program s) (free_in_scope p.setting.program s) source target q
     → StmtLaw (world_of p) s (Uncopy at kind source target) (mirror_cells q)
 uncopy_fits p few classes s at kind source target ok q law n owes d u =
-    rows.uncopy_does p.setting (A p classes s u) (L p classes s u) (R p classes s u) (spot_in p.setting.program s)
-    (free_in p.setting.program s) source target (rates_of p.setting) (some_counts _) (omega arith) q law
+    rows.uncopy_does p.setting (A p classes s u) (L p classes s u) (R p classes s u) (visible_spot p.setting.program s)
+    (free_in_scope p.setting.program s) source target (rates_of p.setting) (some_counts _) (omega arith) q law
     (facts p few classes s u at kind source target ok.rules ok.has_words.0 ok.has_words.1 ok.room) p.im (suc n) d at n
     kind (exec p.setting n)

@@ -10,8 +10,8 @@ use Rattle.object_codegen.specs.buddy_book.Place.{Placing, place}
 use Rattle.object_codegen.specs.roopl_semantics.Store.{Value, Nil, Name, State, main_name, object_at}
 use Rattle.object_codegen.specs.roopl_semantics.Value.{Cell, Slot, Part, read, written}
 use Rattle.object_codegen.specs.roopl_semantics.Laws.{one_if_name}
-use Rattle.object_codegen.specs.roopl_semantics.Execution.{Setting, counted, one_less}
-use Rattle.object_codegen.specs.meaning_sound.Sound.{count_of, head_named, named_fits, is_live, fits, cell_kind, Sound}
+use Rattle.object_codegen.specs.roopl_semantics.Execution.{Setting, count_changed, one_less}
+use Rattle.object_codegen.specs.meaning_sound.Sound.{count_of, head_named, named_fits, is_live, is_of_kind, cell_kind, Sound}
 use Rattle.object_codegen.proofs.meaning_sound_laws.Cells.{sound_of, heads_written, counts_written}
 use Rattle.object_codegen.proofs.meaning_sound_laws.Removal.{other_one, counted_heads, copy_keeps, uncopy_keeps}
 use Rattle.object_codegen.proofs.meaning_sound_laws.Stores.{live_object}
@@ -35,7 +35,7 @@ module _ (setting : Setting) (statics : List ℕ) (s : Scope) (u : Under) where
   module _ (st : State) (cells : List ℕ) (h : Reads setting statics s u [] st cells) (n : ℕ)
       (live : is_live st.store n ≡ true) (change : ℕ → ℕ) where
     abbrev end : State
-    end = counted change st n
+    end = count_changed change st n
 
     abbrev stack : List ℕ
     stack = stack_words setting statics h.frame.at u st.frame []
@@ -125,11 +125,11 @@ module _ (setting : Setting) (statics : List ℕ) (s : Scope) (u : Under) where
     -- a value of the cell's type is written, and the count of an object changes so that the whole
     -- is sound
     module _ (c : Cell) (k : Kind) (has : cell_kind setting.program (shape_of setting.program s) st.store c ≡ Some k)
-        (v : Value) (fit : fits setting.program st.store v k ≡ true) (no_main : one_if_name main_name v ≡ 0)
+        (v : Value) (fit : is_of_kind setting.program st.store v k ≡ true) (no_main : one_if_name main_name v ≡ 0)
         (small : value_word setting statics h.frame.at v < 2 ^ 32)
         (n : ℕ) (live : is_live st.store n ≡ true) (change : ℕ → ℕ)
         (less : change (object_at st.store n).count < 2 ^ 32)
-        (all : Sound setting E (shape_of setting.program s) s.class (counted change (written st c v) n)) where
+        (all : Sound setting E (shape_of setting.program s) s.class (count_changed change (written st c v) n)) where
       abbrev mid : State
       mid = written st c v
 
@@ -142,11 +142,11 @@ module _ (setting : Setting) (statics : List ℕ) (s : Scope) (u : Under) where
       live_mid : is_live mid.store n ≡ true
       live_mid = ap is_some (heads_written setting E (shape_of setting.program s) s.class st c v n) ∙ live
 
-      stands_mid : Stands setting statics s u [] (counted change mid n)
+      stands_mid : Stands setting statics s u [] (count_changed change mid n)
           (slice_set mid_cells (address_of setting statics first.frame.at n + 1) (change (object_at mid.store n).count))
       stands_mid = record {
         frame = frame_counted mid mid_cells first n live_mid change;
-        keeps = kept_sound mid (counted change mid n) (heads mid mid_cells first n live_mid change) first.keeps all;
+        keeps = kept_sound mid (count_changed change mid n) (heads mid mid_cells first n live_mid change) first.keeps all;
         words = set_words mid_cells (address_of setting statics first.frame.at n + 1)
             (change (object_at mid.store n).count) first.words
             (subst (λ z. change z < 2 ^ 32) (sym (same_count c v n live)) less);
@@ -162,13 +162,13 @@ module _ (setting : Setting) (statics : List ℕ) (s : Scope) (u : Under) where
           log_same (Slot j) = refl
           log_same (Part m j) = refl
 
-      pub stands_after : Stands setting statics s u [] (counted change mid n)
+      pub stands_after : Stands setting statics s u [] (count_changed change mid n)
           (slice_set mid_cells (address_of setting statics h.frame.at n + 1) (change (object_at st.store n).count))
       stands_after =
-          subst (λ (a : Placing). Stands setting statics s u [] (counted change mid n)
+          subst (λ (a : Placing). Stands setting statics s u [] (count_changed change mid n)
           (slice_set mid_cells (address_of setting statics a n + 1) (change (object_at st.store n).count)))
           same_first
-          (subst (λ z. Stands setting statics s u [] (counted change mid n)
+          (subst (λ z. Stands setting statics s u [] (count_changed change mid n)
           (slice_set mid_cells (address_of setting statics first.frame.at n + 1) (change z)))
           (same_count c v n live) stands_mid)
 
@@ -176,9 +176,9 @@ module _ (setting : Setting) (statics : List ℕ) (s : Scope) (u : Under) where
     module _ (a b : Cell) (k l : Kind) (ha : cell_kind setting.program (shape_of setting.program s) st.store a ≡ Some k)
         (hb : cell_kind setting.program (shape_of setting.program s) st.store b ≡ Some l) (n : ℕ)
         (is : IsRefers setting statics s u st cells r n) (holds : read st a ≡ Name n) where
-      pub copied_stands : read st b ≡ Nil → fits setting.program st.store (Name n) l ≡ true
+      pub copied_stands : read st b ≡ Nil → is_of_kind setting.program st.store (Name n) l ≡ true
           → value_word setting statics h.frame.at (Name n) < 2 ^ 32 → (object_at st.store n).count + 1 < 2 ^ 32
-          → Stands setting statics s u [] (counted suc (written st b (Name n)) n)
+          → Stands setting statics s u [] (count_changed suc (written st b (Name n)) n)
           (slice_set (slice_set cells (place_of setting statics h.frame.at u st b)
           (value_word setting statics h.frame.at (Name n))) (address_of setting statics h.frame.at n + 1)
           (suc (object_at st.store n).count))
@@ -187,7 +187,7 @@ module _ (setting : Setting) (statics : List ℕ) (s : Scope) (u : Under) where
           (copy_keeps setting E (shape_of setting.program s) s.class st a b k l n sound ha hb holds empty fit).sound
 
       pub uncopied_stands : read st b ≡ Name n → is_int l ≡ false → (object_at st.store n).count + 1 < 2 ^ 32
-          → Stands setting statics s u [] (counted one_less (written st b Nil) n)
+          → Stands setting statics s u [] (count_changed one_less (written st b Nil) n)
           (slice_set (slice_set cells (place_of setting statics h.frame.at u st b) 0)
           (address_of setting statics h.frame.at n + 1) ((object_at st.store n).count - 1))
       uncopied_stands same no_int less =

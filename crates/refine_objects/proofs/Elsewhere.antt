@@ -9,18 +9,18 @@ use Rattle.object_codegen.specs.pisa_isa.Loaded.{statics_at}
 use Rattle.object_codegen.specs.roopl_semantics.Store.{Value, Word, Nil, Name, Binding, Store, main_name}
 use Rattle.object_codegen.specs.roopl_semantics.Laws.{one_if_name, holders_among}
 use Rattle.object_codegen.specs.roopl_semantics.Execution.{Setting}
-use Rattle.object_codegen.specs.meaning_sound.Sound.{head_named, is_live, named_fits, local_type, value_of}
+use Rattle.object_codegen.specs.meaning_sound.Sound.{head_named, is_live, named_fits, local_type, bound_value}
 use Rattle.object_codegen.proofs.meaning_sound_laws.Lists.{all_kept}
 use Rattle.object_codegen.proofs.meaning_sound_laws.Removal.{one_name}
-use Rattle.object_codegen.specs.refine_form.Frames.{Caller, Under, base, address_of, value_word, value_words, values_of, filled_to}
+use Rattle.object_codegen.specs.refine_form.Frames.{CallerFrame, Under, base, address_of, value_word, value_words, values_of, filled_to}
 use Rattle.object_codegen.specs.refine_form.Frames.{frame_words, callers_words, stack_words, CallersStand}
 use Rattle.object_codegen.specs.refine_form.Stands.{shape_of, CallersFit}
 use Rattle.refine_expressions.proofs.refine_calls_laws.MovesFit.{class_at}
 
 -- no frame below has the name, as a value or as its object
-abbrev pub Avoids : ℕ → List Caller → Type 0
+abbrev pub Avoids : ℕ → List CallerFrame → Type 0
 Avoids n [] = Unit {0}
-Avoids n (c ∷ callers) = (holders_among n (map value_of c.frame) ≡ 0) × (n ≢ c.self) × Avoids n callers
+Avoids n (c ∷ callers) = (holders_among n (map bound_value c.frame) ≡ 0) × (n ≢ c.self) × Avoids n callers
 
 -- a value that is held is no other name
 pub held_apart : (n m : ℕ) (vs : List Value) → holders_among n vs ≡ 0 → 0 < holders_among m vs → n ≢ m
@@ -43,13 +43,13 @@ module _ (setting : Setting) (statics : List ℕ) (at at' : Placing) (n : ℕ)
       ap (λ z. z ++ (value_word setting statics at' v ∷ [])) (words_same vs (omega arith))
       ∙ ap (λ w. value_words setting statics at vs ++ (w ∷ [])) (word_same v (omega arith))
 
-  frame_same : (put_by : List ℕ) (frame : List Binding) → holders_among n (map value_of frame) ≡ 0
+  frame_same : (put_by : List ℕ) (frame : List Binding) → holders_among n (map bound_value frame) ≡ 0
       → frame_words setting statics at' put_by (values_of setting statics frame)
       ≡ frame_words setting statics at put_by (values_of setting statics frame)
   frame_same put_by frame h = ap (λ z. filled_to setting statics FRAME_WORDS (put_by ++ z))
       (words_same (values_of setting statics frame) h)
 
-  callers_same : (callers : List Caller) → Avoids n callers
+  callers_same : (callers : List CallerFrame) → Avoids n callers
       → callers_words setting statics at' callers ≡ callers_words setting statics at callers
   callers_same [] h = refl
   callers_same (c ∷ callers) h =
@@ -57,7 +57,7 @@ module _ (setting : Setting) (statics : List ℕ) (at at' : Placing) (n : ℕ)
       (callers_same callers h.2)
       ∙ ap (λ z. callers_words setting statics at callers ++ z) (frame_same c.put_by c.frame h.0)
 
-  pub stack_same : (u : Under) (frame : List Binding) → holders_among n (map value_of frame) ≡ 0 → Avoids n u.callers
+  pub stack_same : (u : Under) (frame : List Binding) → holders_among n (map bound_value frame) ≡ 0 → Avoids n u.callers
       → stack_words setting statics at' u frame [] ≡ stack_words setting statics at u frame []
   stack_same u frame h g =
       ap (λ z. z ++ (frame_words setting statics at' u.put_by (values_of setting statics frame) ++ []))
@@ -69,19 +69,19 @@ module _ (setting : Setting) (statics : List ℕ) (at at' : Placing) (n : ℕ)
 
   module _ (store store' : Store) (heads : (m : ℕ) → n ≢ m → is_live store m ≡ true
       → head_named store' m ≡ head_named store m) where
-    pub callers_fit_on : (callers : List Caller) → CallersFit setting statics store callers → Avoids n callers
+    pub callers_fit_on : (callers : List CallerFrame) → CallersFit setting statics store callers → Avoids n callers
         → CallersFit setting statics store' callers
     callers_fit_on [] h a = tt
     callers_fit_on (c ∷ callers) h a =
         let self = heads c.self a.1 (ap is_some h.2) in (
           all_kept setting.program store store' (map local_type (shape_of setting.program c.scope))
-              (map value_of c.frame) (λ m p l. heads m (held_apart n m (map value_of c.frame) a.0 p) l) h.0,
+              (map bound_value c.frame) (λ m p l. heads m (held_apart n m (map bound_value c.frame) a.0 p) l) h.0,
           ap (named_fits setting.program (kind.Class c.scope.class)) self ∙ h.1,
           self ∙ h.2,
           callers_fit_on callers h.3 a.2,
         )
 
-    pub callers_stand_on : (callers : List Caller) → CallersFit setting statics store callers → Avoids n callers
+    pub callers_stand_on : (callers : List CallerFrame) → CallersFit setting statics store callers → Avoids n callers
         → CallersStand setting statics at store callers → CallersStand setting statics at' store' callers
     callers_stand_on [] f a h = tt
     callers_stand_on (c ∷ callers) f a h = (

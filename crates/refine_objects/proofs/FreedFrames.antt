@@ -9,7 +9,7 @@ use Rattle.object_codegen.specs.code_conventions.declared.memory.TheConstants.{F
 use Rattle.object_codegen.specs.class_rules.declared.kind.Kind.{Kind}
 use Rattle.object_codegen.specs.class_rules.declared.kind.Kind.TheVariants as kind
 use Rattle.object_codegen.specs.class_rules.Expressions.{is_int}
-use Rattle.object_codegen.specs.buddy_book.Book.{take, give}
+use Rattle.object_codegen.specs.buddy_book.Book.{take, give_back}
 use Rattle.object_codegen.specs.buddy_book.Place.{Placing, Given, after_request, block_of, without_name, count_taken}
 use Rattle.object_codegen.specs.buddy_book.Place.{place}
 use Rattle.object_codegen.specs.buddy_book.Shown.{Shown, without_taken, IsKept}
@@ -24,7 +24,7 @@ use Rattle.object_codegen.specs.roopl_semantics.Execution.{Setting, order_of_cel
 use Rattle.object_codegen.specs.roopl_semantics.Laws.{one_if_name}
 use Rattle.object_codegen.specs.roopl_semantics.Layout.{head_word}
 use Rattle.object_codegen.proofs.roopl_semantics_laws.Orders.{order_from_one}
-use Rattle.object_codegen.specs.meaning_sound.Sound.{head_of, head_named, part_kind, count_of, named_fits, fits}
+use Rattle.object_codegen.specs.meaning_sound.Sound.{head_of, head_named, part_kind, count_of, named_fits, is_of_kind}
 use Rattle.object_codegen.specs.meaning_sound.Sound.{is_live, cell_kinds}
 use Rattle.object_codegen.specs.meaning_sound.Sound.{cell_kind, held, Sound, Keeps, IsPlaced, Typed}
 use Rattle.object_codegen.proofs.meaning_sound_laws.Lists.{all_length}
@@ -35,7 +35,7 @@ use Rattle.object_codegen.proofs.meaning_sound_laws.Removal.{one_name, apart_cel
 use Rattle.object_codegen.proofs.meaning_sound_laws.Removal.{freed_is}
 use Rattle.object_codegen.proofs.meaning_sound_laws.Removal.{freed_keeps}
 use Rattle.object_codegen.specs.refine_form.Form.{Scope}
-use Rattle.object_codegen.specs.refine_form.Frames.{Caller, Under, base, stack_base, before_stack, memory, stack_words}
+use Rattle.object_codegen.specs.refine_form.Frames.{CallerFrame, Under, base, stack_base, before_stack, memory, stack_words}
 use Rattle.object_codegen.specs.refine_form.Frames.{address_of}
 use Rattle.object_codegen.specs.refine_form.Frames.{value_word, CallersStand, OpenFrame}
 use Rattle.object_codegen.specs.refine_form.Stands.{shape_of, extra, main_held, below_held, setup, CallersHeld, Kept}
@@ -48,14 +48,14 @@ use Rattle.refine_expressions.proofs.meaning_inverse_laws.Cells.{length_with}
 use Rattle.object_codegen.proofs.meaning_sound_laws.AfterWrites.{read_same}
 use Rattle.object_codegen.proofs.refine_frame_laws.Memory.{base_above}
 use Rattle.refine_expressions.proofs.CellsWritten.{reads_after, held_after}
-use Rattle.object_codegen.specs.News.{Takes, filled}
+use Rattle.object_codegen.specs.News.{Takes, filled_words}
 use Rattle.refine_objects.proofs.BookWords.{memory_small, memory_words, memory_above}
 use Rattle.refine_objects.proofs.Placings.{placed_as, same_frame}
 use Rattle.refine_objects.proofs.Elsewhere.{Avoids, address_same, callers_fit_on, callers_stand_on}
 use Rattle.refine_objects.proofs.MadeMemory.{bare, bare_zero, written_over, cell_outside, block_inside}
 
 -- a name that is held nowhere below is in no frame there: the object of each is held
-avoids_free : (n : ℕ) (callers : List Caller) → CallersHeld callers → main_held n ≡ 0 → below_held n callers ≡ 0
+avoids_free : (n : ℕ) (callers : List CallerFrame) → CallersHeld callers → main_held n ≡ 0 → below_held n callers ≡ 0
     → Avoids n callers
 avoids_free n [] h m b = tt
 avoids_free n (c ∷ callers) h m b = (
@@ -89,7 +89,7 @@ module _ (setting : Setting) (statics : List ℕ) (s : Scope) (u : Under) (st : 
   t = typed setting statics s u [] st cells (reads_of h)
 
   live : is_live st.store n ≡ true
-  live = fit_live setting.program st.store (Name n) k n (subst (λ v. fits setting.program st.store v k ≡ true) reads
+  live = fit_live setting.program st.store (Name n) k n (subst (λ v. is_of_kind setting.program st.store v k ≡ true) reads
       (read_fits setting (extra u []) (shape_of setting.program s) s.class st cell k t has))
       (let o = one_name n in omega (arith, o))
 
@@ -164,7 +164,7 @@ module _ (setting : Setting) (statics : List ℕ) (s : Scope) (u : Under) (st : 
   block = block_of before.blocks n
 
   abbrev pub after : Placing
-  after = record { book = give before.book order block; blocks = without_name before.blocks n }
+  after = record { book = give_back before.book order block; blocks = without_name before.blocks n }
 
   pub placed_is : place setting.limits.heap small.log ≡ Some after
   placed_is = ap (after_request (Given n order)) nil_reads.keeps.placed.placed
@@ -308,7 +308,7 @@ module _ (setting : Setting) (statics : List ℕ) (s : Scope) (u : Under) (st : 
       object_same
 
   -- the memory before is that of the freed state with the block taken and filled
-  pub was : cells ≡ filled place_at x mark taken
+  pub was : cells ≡ filled_words place_at x mark taken
   was =
       let one : slice_set (slice_set cells place_at 0) place_at x ≡ cells = set-set cells place_at 0 x
       ∙ ap (slice_set cells place_at) (sym place_word) ∙ set-get_or cells place_at 0 in

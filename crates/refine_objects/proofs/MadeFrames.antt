@@ -17,9 +17,9 @@ use Rattle.object_codegen.specs.roopl_semantics.Execution.{HEAP_FULL}
 use Rattle.object_codegen.specs.roopl_semantics.Laws.{holders_among}
 use Rattle.object_codegen.specs.roopl_semantics.Layout.{head_word}
 use Rattle.object_codegen.proofs.roopl_semantics_laws.Orders.{order_from_one}
-use Rattle.object_codegen.specs.meaning_sound.Sound.{head_of, head_named, head_fits, named_fits, fits, is_live}
+use Rattle.object_codegen.specs.meaning_sound.Sound.{head_of, head_named, head_fits, named_fits, is_of_kind, is_live}
 use Rattle.object_codegen.specs.meaning_sound.Sound.{cell_kinds}
-use Rattle.object_codegen.specs.meaning_sound.Sound.{cell_kind, AllFit, value_of, held, Sound, Keeps, IsPlaced, Typed}
+use Rattle.object_codegen.specs.meaning_sound.Sound.{cell_kind, AllFit, bound_value, held, Sound, Keeps, IsPlaced, Typed}
 use Rattle.object_codegen.proofs.meaning_sound_laws.Stores.{here, there, same_number, other_number, live_named}
 use Rattle.object_codegen.proofs.meaning_sound_laws.Cells.{sound_of}
 use Rattle.object_codegen.proofs.meaning_sound_laws.Placing.{TookBlock, took_block, place_taken}
@@ -28,7 +28,7 @@ use Rattle.object_codegen.proofs.meaning_sound_laws.Objects.{older_head}
 use Rattle.object_codegen.proofs.meaning_sound_laws.Objects.{cell_bigger, read_bigger, allocated_keeps, not_pos}
 use Rattle.object_codegen.proofs.meaning_sound_laws.Runs.{Ends}
 use Rattle.object_codegen.specs.refine_form.Form.{Scope}
-use Rattle.object_codegen.specs.refine_form.Frames.{Caller, Under, base, stack_base, before_stack, memory, stack_words}
+use Rattle.object_codegen.specs.refine_form.Frames.{CallerFrame, Under, base, stack_base, before_stack, memory, stack_words}
 use Rattle.object_codegen.specs.refine_form.Frames.{address_of}
 use Rattle.object_codegen.specs.refine_form.Frames.{value_word, StandsAt, OpenFrame}
 use Rattle.object_codegen.specs.refine_form.Stands.{shape_of, extra, setup, HasElements, CallersFit, Kept, Reads}
@@ -46,20 +46,20 @@ use Rattle.refine_objects.proofs.BookWords.{memory_small, memory_words, memory_a
 use Rattle.refine_objects.proofs.Placings.{placed_as}
 use Rattle.refine_objects.proofs.Elsewhere.{Avoids, address_same, callers_fit_on, callers_stand_on}
 use Rattle.refine_objects.proofs.MadeMemory.{bare, bare_zero, written_over, cell_outside, block_inside}
-use Rattle.object_codegen.specs.News.{Takes, filled}
+use Rattle.object_codegen.specs.News.{Takes, filled_words}
 use Rattle.object_codegen.specs.buddy_book.Shown.{with_taken, IsKept}
 use Rattle.object_codegen.proofs.buddy_book_laws.Orders.{take_took}
 use Rattle.object_codegen.proofs.buddy_book_laws.Kept.{take_kept}
 
 -- a name that is not live is in no frame
 avoids_dead : (setting : Setting) (statics : List ℕ) (store : Store) (n : ℕ) → is_live store n ≡ false
-    → (callers : List Caller) → CallersFit setting statics store callers → Avoids n callers
+    → (callers : List CallerFrame) → CallersFit setting statics store callers → Avoids n callers
 avoids_dead setting statics store n dead [] h = tt
 avoids_dead setting statics store n dead (c ∷ callers) h = (
-  not_pos (holders_among n (map value_of c.frame))
+  not_pos (holders_among n (map bound_value c.frame))
       (λ q. clash (is_live store n) (all_live setting.program store
       (map Rattle.object_codegen.specs.meaning_sound.Sound.local_type (shape_of setting.program c.scope))
-      (map value_of c.frame)
+      (map bound_value c.frame)
       n h.0 q) dead),
   (λ e. clash (is_live store n) (ap (is_live store) e ∙ ap is_some h.2) dead),
   avoids_dead setting statics store n dead callers h.3,
@@ -325,7 +325,7 @@ module _ (setting : Setting) (statics : List ℕ) (s : Scope) (u : Under) (st : 
   has_big : cell_kind setting.program (shape_of setting.program s) big.store cell ≡ Some k
   has_big = cell_bigger setting (extra u []) (shape_of setting.program s) s.class st head values cell k t has
 
-  fits_name : fits setting.program big.store (Name n) k ≡ true
+  fits_name : is_of_kind setting.program big.store (Name n) k ≡ true
   fits_name = ap (λ o. named_fits setting.program k (option_map head_of o))
       (here n n (new_object head values) st.store (same_number n)) ∙ fit_head
 
@@ -365,14 +365,14 @@ module _ (setting : Setting) (statics : List ℕ) (s : Scope) (u : Under) (st : 
       fit_head fit none)
 
   made_cells_are : slice_set big_cells (place_of setting statics at' u big cell)
-      (value_word setting statics at' (Name n)) ≡ filled place_at x (head_word setting.program head) taken
+      (value_word setting statics at' (Name n)) ≡ filled_words place_at x (head_word setting.program head) taken
   made_cells_are =
       ap (λ a. slice_set big_cells a (value_word setting statics at' (Name n))) place_same
       ∙ ap (λ w. slice_set big_cells place_at w) name_word
       ∙ ap (λ z. slice_set z place_at x) big_is
 
   -- the frame is open, with the object in the place
-  pub made : Stands setting statics s u [] made_state (filled place_at x (head_word setting.program head) taken)
+  pub made : Stands setting statics s u [] made_state (filled_words place_at x (head_word setting.program head) taken)
   made = subst (Stands setting statics s u [] made_state) made_cells_are
       (record {
         frame = made_reads.frame;

@@ -18,7 +18,7 @@ use Rattle.object_codegen.proofs.buddy_book_laws.Requests.{block_of_other}
 use Rattle.object_codegen.specs.roopl_semantics.Store.{Object, Binding, State, main_name, object_at, without}
 use Rattle.object_codegen.specs.roopl_semantics.Value.{Cell, Slot, Part}
 use Rattle.object_codegen.specs.roopl_semantics.Execution.{Setting, all_zero}
-use Rattle.object_codegen.specs.roopl_semantics.Layout.{word_of, head_word, object_words}
+use Rattle.object_codegen.specs.roopl_semantics.Layout.{word_of_value, head_word, object_words}
 use Rattle.object_codegen.specs.meaning_sound.Sound.{head_of, is_live, cell_kinds, cell_kind, held, head_named, Typed}
 use Rattle.object_codegen.proofs.meaning_sound_laws.Lists.{all_length}
 use Rattle.object_codegen.proofs.meaning_sound_laws.Stores.{live_object, differs}
@@ -166,9 +166,9 @@ module _ (setting : Setting) (statics : List ℕ) (s : Scope) (u : Under) (st : 
     pub written_over : (object_at st.store n).count ≡ 1 → all_zero (object_at st.store n).cells ≡ true
         → cells ≡ slice_set (slice_set bare block mark) (block + COUNT_WORD) 1
     written_over single empty =
-        let ws = map (word_of (base setting statics) at.blocks) (object_at st.store n).cells in
+        let ws = map (word_of_value (base setting statics) at.blocks) (object_at st.store n).cells in
         let few : length ws ≡ fields = length-map (object_at st.store n).cells
-        (word_of (base setting statics) at.blocks) in
+        (word_of_value (base setting statics) at.blocks) in
         let l = cells_long in
         let i = block_inside in
         over

@@ -8,24 +8,24 @@ use Rattle.std.specs.Prelude.{nat_eq, ◌&&◌, slice_index, slice_set}
 use Rattle.object_codegen.specs.code_conventions.declared.memory.TheConstants.{HEADER_WORDS, COUNT_WORD}
 use Rattle.object_codegen.specs.roopl_semantics.Store.{Value, Word, Nil, Name, is_zero}
 use Rattle.object_codegen.specs.roopl_semantics.Execution.{all_zero}
-use Rattle.object_codegen.specs.roopl_semantics.Layout.{overlaid, word_of}
+use Rattle.object_codegen.specs.roopl_semantics.Layout.{overlaid, word_of_value}
 use Rattle.object_codegen.proofs.meaning_sound_laws.Overlays.{length_overlaid, index_inside, index_outside}
 use Rattle.object_codegen.specs.code_conventions.Header.{header}
 use Rattle.refine_expressions.proofs.refine_calls_laws.StaticsWords.{header_is}
 
 -- zeros have words of 0
 pub zeros_words : (base : ℕ) (blocks : List (ℕ × ℕ)) (vs : List Value) → all_zero vs ≡ true → (i : ℕ)
-    → slice_index (map (word_of base blocks) vs) i ≡ 0
+    → slice_index (map (word_of_value base blocks) vs) i ≡ 0
 zeros_words base blocks [] h i = refl
 zeros_words base blocks (v ∷ vs) h i = by v h i (λ q j. zeros_words base blocks vs q j)
   where
     by : (v : Value) → (is_zero v && all_zero vs) ≡ true → (i : ℕ)
-        → (all_zero vs ≡ true → (j : ℕ) → slice_index (map (word_of base blocks) vs) j ≡ 0)
-        → slice_index (word_of base blocks v ∷ map (word_of base blocks) vs) i ≡ 0
+        → (all_zero vs ≡ true → (j : ℕ) → slice_index (map (word_of_value base blocks) vs) j ≡ 0)
+        → slice_index (word_of_value base blocks v ∷ map (word_of_value base blocks) vs) i ≡ 0
     by (Word w) q i rest = word (nat_eq w 0) refl q i
       where
         word : (b : Bool) → nat_eq w 0 ≡ b → (b && all_zero vs) ≡ true → (i : ℕ)
-            → slice_index (w ∷ map (word_of base blocks) vs) i ≡ 0
+            → slice_index (w ∷ map (word_of_value base blocks) vs) i ≡ 0
         word true e z zero = eqb-true w 0 e
         word true e z (suc i) = rest z i
         word false e z i = absurd (cc)

@@ -8,7 +8,7 @@ use Rattle.object_codegen.specs.expr_uncompute.Code.{place_words}
 use Rattle.object_codegen.specs.Promises.{CopyLaw}
 use Rattle.object_codegen.specs.refine_form.Form.{Scope, StmtLaw}
 use Rattle.object_codegen.specs.refine_form.Worlds.{Place, world_of}
-use Rattle.refine_expressions.specs.Typing.{IsPassed, spot_in, free_in}
+use Rattle.refine_expressions.specs.Typing.{IsPassed, visible_spot, free_in_scope}
 use Rattle.refine_expressions.specs.Laws.{IsLaidOut}
 
 -- code of a copy does what the source says of the statement, back what it says of its inverse
@@ -19,7 +19,7 @@ CopiesAreTold =
     → IsPassed place.setting.program s
     (Copy at kind source target) (place_words source + place_words target)
     → (p : List Symbol)
-    → CopyLaw (spot_in place.setting.program s) (free_in place.setting.program s) source target p
+    → CopyLaw (visible_spot place.setting.program s) (free_in_scope place.setting.program s) source target p
     → StmtLaw (world_of place) s (Copy at kind source target) p
 
 -- and its inverse that of an uncopy, back what the source says of its inverse
@@ -30,5 +30,5 @@ UncopiesAreTold =
     → IsPassed place.setting.program s
     (Uncopy at kind source target) (place_words source + place_words target)
     → (p : List Symbol)
-    → CopyLaw (spot_in place.setting.program s) (free_in place.setting.program s) source target p
+    → CopyLaw (visible_spot place.setting.program s) (free_in_scope place.setting.program s) source target p
     → StmtLaw (world_of place) s (Uncopy at kind source target) (mirror_cells p)

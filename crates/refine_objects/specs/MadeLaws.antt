@@ -8,7 +8,7 @@ use Rattle.object_codegen.specs.Creations.{NewLaw, creation_words}
 use Rattle.object_codegen.specs.refine_form.Form.{Scope, StmtLaw}
 use Rattle.object_codegen.specs.refine_form.Worlds.{Place, world_of}
 use Rattle.refine_expressions.specs.refine_calls.Laws.{IsLinked}
-use Rattle.refine_expressions.specs.Typing.{IsPassed, spot_in, free_in}
+use Rattle.refine_expressions.specs.Typing.{IsPassed, visible_spot, free_in_scope}
 
 -- code of a `new` does what the source says of the statement, back what it says of its inverse
 abbrev pub NewsAreTold : Type 0
@@ -17,8 +17,8 @@ NewsAreTold =
     → (s : Scope) (at : ℕ) (made : Creation) (target : Lvalue)
     → IsPassed place.setting.program s (New at made target) (creation_words made target)
     → (p : List Symbol)
-    → NewLaw place.setting.program (spot_in place.setting.program s)
-    (free_in place.setting.program s) made target p
+    → NewLaw place.setting.program (visible_spot place.setting.program s)
+    (free_in_scope place.setting.program s) made target p
     → StmtLaw (world_of place) s (New at made target) p
 
 -- and its inverse that of a `delete`, back what the source says of its inverse
@@ -28,6 +28,6 @@ DeletesAreTold =
     → (s : Scope) (at : ℕ) (made : Creation) (target : Lvalue)
     → IsPassed place.setting.program s (Delete at made target) (creation_words made target)
     → (p : List Symbol)
-    → NewLaw place.setting.program (spot_in place.setting.program s)
-    (free_in place.setting.program s) made target p
+    → NewLaw place.setting.program (visible_spot place.setting.program s)
+    (free_in_scope place.setting.program s) made target p
     → StmtLaw (world_of place) s (Delete at made target) (mirror_cells p)

@@ -14,19 +14,19 @@ use Rattle.object_codegen.specs.meaning_sound.Sound.{head_fits, cell_kinds, cell
 use Rattle.object_codegen.specs.refine_form.Form.{Scope}
 use Rattle.object_codegen.specs.refine_form.Frames.{Under, stack_base}
 use Rattle.object_codegen.specs.refine_form.Stands.{shape_of, HasElements, Stands}
-use Rattle.object_codegen.specs.News.{Takes, filled}
+use Rattle.object_codegen.specs.News.{Takes, filled_words}
 use Rattle.object_codegen.specs.rpp_words.declared.input.TheConstants.{FRAME_WORDS}
 use Rattle.object_codegen.specs.code_conventions.declared.memory.TheConstants.{FIRST_VARIABLE}
 use Rattle.object_codegen.specs.pisa_isa.declared.image.TheConstants.{MOST_STATICS}
 
 -- the first word after the variables of the current frame
-abbrev pub behind : Setting → List ℕ → Under → Scope → ℕ
-behind setting statics u s =
+abbrev pub address_behind : Setting → List ℕ → Under → Scope → ℕ
+address_behind setting statics u s =
     stack_base setting statics + FRAME_WORDS * length u.callers + (FIRST_VARIABLE + length s.vars)
 
 -- the requests with one for what has this head
-abbrev pub asked : Setting → Head → State → Log
-asked setting head st =
+abbrev pub request_log : Setting → Head → State → Log
+request_log setting head st =
     Taken (2 + count_taken st.log) (order_of_cells (length (cell_kinds setting.program head)))
     ∷ st.log
 
@@ -35,19 +35,19 @@ abbrev pub with_new : Setting → Head → List Value → Cell → State → Sta
 with_new setting head values cell st =
     written (record st {
       store = (2 + count_taken st.log, new_object head values) ∷ st.store;
-      log = asked setting head st;
+      log = request_log setting head st;
     }) cell (Name (2 + count_taken st.log))
 
 -- a block of zeros is taken for it, and filled; then the frame is open with it
-pub record IsMade (setting : Setting) (statics : List ℕ) (s : Scope) (u : Under) (st : State)
+pub record IsObjectMade (setting : Setting) (statics : List ℕ) (s : Scope) (u : Under) (st : State)
     (cells : List ℕ)
     (cell : Cell) (head : Head) (values : List Value) : Type 0 where
   pub at : ℕ
   pub block : ℕ
   pub taken : List ℕ
-  pub takes : Takes (behind setting statics u s) (length values) at block cells taken
+  pub takes : Takes (address_behind setting statics u s) (length values) at block cells taken
   pub after : Stands setting statics s u [] (with_new setting head values cell st)
-      (filled at block (head_word setting.program head) taken)
+      (filled_words at block (head_word setting.program head) taken)
 
 -- so it is with each that has the type of a nil cell, if the heap has a block
 abbrev pub NewsAreOpen : Type 0
@@ -61,9 +61,9 @@ NewsAreOpen =
     → ((store : Store) → AllFit setting.program store (cell_kinds setting.program head) values)
     → ((m : ℕ) → holders_among m values ≡ 0) → all_zero values ≡ true → HasElements head
     → (nat_lt setting.limits.heap (order_of_cells (length (cell_kinds setting.program head)))
-    || is_none (place setting.limits.heap (asked setting head st))) ≡ false
+    || is_none (place setting.limits.heap (request_log setting head st))) ≡ false
     → head_word setting.program head < 2 ^ 32
-    → IsMade setting statics s u st cells cell head values
+    → IsObjectMade setting statics s u st cells cell head values
 
 -- the memory is one in which its block was taken and filled; with the block given back the frame is
 -- open without it
@@ -74,8 +74,8 @@ pub record IsGone (setting : Setting) (statics : List ℕ) (s : Scope) (u : Unde
   pub block : ℕ
   pub given : List ℕ
   pub taken : List ℕ
-  pub was : cells ≡ filled at block (head_word setting.program (object_at st.store n).head) taken
-  pub takes : Takes (behind setting statics u s) (length (object_at st.store n).cells) at block
+  pub was : cells ≡ filled_words at block (head_word setting.program (object_at st.store n).head) taken
+  pub takes : Takes (address_behind setting statics u s) (length (object_at st.store n).cells) at block
       given taken
   pub after : Stands setting statics s u [] (freed setting cell n st) given
 

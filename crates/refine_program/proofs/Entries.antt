@@ -11,21 +11,21 @@ use Rattle.refine_calls.specs.class_rules.Classes.{method_named}
 use Rattle.refine_calls.specs.class_rules.Inheritance.{is_or_inherits}
 use Rattle.refine_calls.proofs.class_rules_laws.FoundMethods.{Dispatched, dispatched_method, own_range}
 use Rattle.refine_calls.specs.paired_code.declared.part.Symbol.{Symbol}
-use Rattle.refine_program.specs.Methods.{Entry, entries_of, entries_from, entries, entry_at, methods_before, routine_of}
+use Rattle.refine_program.specs.Methods.{RoutineEntry, entries_of, entries_from, entries, entry_at, methods_before, routine_of}
 use Rattle.refine_program.specs.Methods.{routine_in}
 use Rattle.refine_program.specs.Laws.{MethodsHaveRoutines, FindsRoutine, CallsFindRoutines, IsRoutineCode}
 use Rattle.refine_program.specs.Laws.{AreRoutineCodes, CodesAreMadeInOrder}
 
 -- ---- the entry of a method
 
-entry_of : (class : ℕ) (methods : List Procedure) (rest : List Entry) (n : ℕ) (m : Procedure)
+entry_of : (class : ℕ) (methods : List Procedure) (rest : List RoutineEntry) (n : ℕ) (m : Procedure)
     → slice_get methods n ≡ Some m → entry_at (entries_of class methods ++ rest) n
     ≡ record { class = class; method = m }
 entry_of class [] rest n m h = absurd (cc)
 entry_of class (x ∷ methods) rest zero m h = let e : x ≡ m = cc in ap (λ z. record { class = class; method = z }) e
 entry_of class (x ∷ methods) rest (suc n) m h = entry_of class methods rest n m h
 
-entry_past : (class : ℕ) (methods : List Procedure) (rest : List Entry) (n k : ℕ) → n ≡ length methods + k
+entry_past : (class : ℕ) (methods : List Procedure) (rest : List RoutineEntry) (n k : ℕ) → n ≡ length methods + k
     → entry_at (entries_of class methods ++ rest) n ≡ entry_at rest k
 entry_past class [] rest n k e = let q : n ≡ k = omega (arith, e) in ap (entry_at rest) q
 entry_past class (x ∷ methods) rest zero k e = absurd (omega (arith, e))
@@ -99,7 +99,7 @@ calls_find_routines program accepted own class slot name above inside is =
 
 -- ---- code by code
 
-one_more : (program : Source) (done : List Entry) (bodies : List (List Symbol)) (entry : Entry) (body : List Symbol)
+one_more : (program : Source) (done : List RoutineEntry) (bodies : List (List Symbol)) (entry : RoutineEntry) (body : List Symbol)
     → AreRoutineCodes program done bodies → IsRoutineCode program entry body
     → AreRoutineCodes program (done ++ entry ∷ []) (bodies ++ body ∷ [])
 one_more program [] [] entry body h c = (c, tt)
@@ -107,7 +107,7 @@ one_more program [] (b ∷ bodies) entry body h c = absurd h
 one_more program (e ∷ done) [] entry body h c = absurd h
 one_more program (e ∷ done) (b ∷ bodies) entry body h c = (h.0, one_more program done bodies entry body h.1 c)
 
-pub as_many : (program : Source) (done : List Entry) (bodies : List (List Symbol)) → AreRoutineCodes program done bodies
+pub as_many : (program : Source) (done : List RoutineEntry) (bodies : List (List Symbol)) → AreRoutineCodes program done bodies
     → length bodies ≡ length done
 as_many program [] [] h = refl
 as_many program [] (b ∷ bodies) h = absurd h
@@ -128,7 +128,7 @@ codes_are_made_in_order program = record {
 }
 
 -- the code of an entry by its number
-pub code_at : (program : Source) (es : List Entry) (bodies : List (List Symbol)) → AreRoutineCodes program es bodies
+pub code_at : (program : Source) (es : List RoutineEntry) (bodies : List (List Symbol)) → AreRoutineCodes program es bodies
     → (r : ℕ) → r < length es → IsRoutineCode program (entry_at es r) (unwrap_or (slice_get bodies r) [])
 code_at program [] bodies h r l = absurd (omega arith)
 code_at program (e ∷ es) [] h r l = absurd h

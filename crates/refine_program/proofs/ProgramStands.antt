@@ -21,25 +21,25 @@ use Rattle.refine_calls.specs.pisa_isa.declared.image.TheConstants.{MOST_STATICS
 use Rattle.refine_calls.specs.paired_code.declared.part.Symbol.{Symbol}
 use Rattle.refine_calls.specs.paired_code.Machine.{Image}
 use Rattle.refine_calls.specs.paired_code.Layout.{Routine as RoutineAt}
-use Rattle.refine_calls.specs.paired_code.Link.{places, first_top, AllPlaced}
+use Rattle.refine_calls.specs.paired_code.Link.{link_positions, first_top, AllPlaced}
 use Rattle.static_layout.specs.roopl_semantics.Layout.{HasStatics}
 use Rattle.static_layout.specs.roopl_semantics.Source.{IsValid}
 use Rattle.static_layout.specs.roopl_semantics.StandsFor.{StandsFor, Follows}
-use Rattle.refine_calls.specs.refine_form.Form.{Routines, AllMethods}
+use Rattle.refine_calls.specs.refine_form.Form.{MethodRoutines, AllMethods}
 use Rattle.refine_calls.specs.refine_form.Worlds.{Place, world_of}
 use Rattle.refine_calls.proofs.refine_form_laws.Stated.{nothing_is_owed}
 use Rattle.refine_calls.specs.Laws.{Route, IsLinked, IsRouted, OpensMain}
 use Rattle.refine_calls.proofs.Stated.{frames_are_open, main_is_open}
-use Rattle.refine_program.specs.Methods.{Entry, entries, routine_of, routine_in, main_routine, method_place}
+use Rattle.refine_program.specs.Methods.{RoutineEntry, entries, routine_of, routine_in, main_routine, method_place}
 use Rattle.refine_program.specs.Methods.{slot_places}
 use Rattle.refine_program.specs.Methods.{table_places}
-use Rattle.refine_program.specs.Laws.{HasRoutine, IsProgramImage, HasRoutines, method_routines, place_of}
+use Rattle.refine_program.specs.Laws.{HasRoutine, IsProgramImage, HasRoutines, method_routines, statement_address}
 use Rattle.refine_program.proofs.Entries.{methods_have_routines, found_routine, as_many, code_at}
 use Rattle.refine_program.proofs.FewStatics.{statics_are_few}
 use Rattle.refine_program.proofs.Tables.{top_of, stands_at, body_behind, place_in, has_statics, slot_word}
 use Rattle.refine_program.proofs.RunsFollow.{follows}
 
-as_many_places : (t : ℕ) (bs : List (List Symbol)) → length (places t bs) ≡ length bs
+as_many_places : (t : ℕ) (bs : List (List Symbol)) → length (link_positions t bs) ≡ length bs
 as_many_places t [] = refl
 as_many_places t (b ∷ bs) = ap suc (as_many_places (t + 1 + 1 + 1 + length b + 1) bs)
 
@@ -53,7 +53,7 @@ module _ (program : Source) (main allocator : List Symbol) (bodies : List (List 
   before = 1
 
   abbrev at : List ℕ
-  at = places (first_top main) all
+  at = link_positions (first_top main) all
 
   abbrev im : Image
   im = record { code = image.code; routines = at }
@@ -61,7 +61,7 @@ module _ (program : Source) (main allocator : List Symbol) (bodies : List (List 
   abbrev tops : ℕ → ℕ
   tops r = top_of (first_top main) all (before + r)
 
-  abbrev routines : Routines
+  abbrev routines : MethodRoutines
   routines = method_routines program bodies tops
 
   many : length all ≡ before + length (entries program)
@@ -113,10 +113,10 @@ module _ (program : Source) (main allocator : List Symbol) (bodies : List (List 
       each_below-get (slot_places program before at) (length program.classes) own [] own_in in
       record {
         below = f.below;
-        method_is = sym (ap (λ (e : Entry). e.method) f.there ∙ f.method_is);
+        method_is = sym (ap (λ (e : RoutineEntry). e.method) f.there ∙ f.method_is);
         vars_are = refl;
-        class_inside = subst (λ (e : Entry). e.class < length program.classes) (sym f.there) f.class_inside;
-        class_above = ap (λ (e : Entry). is_or_inherits program own e.class) f.there ∙ f.class_above;
+        class_inside = subst (λ (e : RoutineEntry). e.class < length program.classes) (sym f.there) f.class_inside;
+        class_above = ap (λ (e : RoutineEntry). is_or_inherits program own e.class) f.there ∙ f.class_above;
         place_is =
             ap (λ z. slice_index z slot) row ∙ slot_word (method_place program before at) (class_slots program own) slot
             d.low
@@ -126,7 +126,7 @@ module _ (program : Source) (main allocator : List Symbol) (bodies : List (List 
 
   module _ (limits : Limits) where
     abbrev place : Place
-    place = place_of program image at bodies tops limits
+    place = statement_address program image at bodies tops limits
 
     routed : IsRouted place (routine_in program)
     routed = record {
@@ -160,9 +160,9 @@ module _ (program : Source) (main allocator : List Symbol) (bodies : List (List 
         let opens : OpensMain place input (main_routine program) =
         main_is_open place image input (main_routine program) is.accepted has refl few short_code inside valid
         main_has.below
-        (ap (λ (e : Entry). e.method.body) entry ∙ sym (ap (λ o. (unwrap_or o no_procedure).body) there.there))
-        (ap (λ (e : Entry). e.method.params) entry ∙ there.no_params)
-        (ap (λ (e : Entry). e.class) entry) in
+        (ap (λ (e : RoutineEntry). e.method.body) entry ∙ sym (ap (λ o. (unwrap_or o no_procedure).body) there.there))
+        (ap (λ (e : RoutineEntry). e.method.params) entry ∙ there.no_params)
+        (ap (λ (e : RoutineEntry). e.class) entry) in
         follows program image at main all is.linked short limits input
         (is.main_code.law place (routine_in program) input (frames_are_open place (routine_in program) linked)
         opens.facts (ap (λ r. before + r) opens.routine_is) methods)

@@ -18,7 +18,7 @@ use Rattle.refine_calls.specs.paired_code.declared.part.Symbol.{Symbol}
 use Rattle.refine_calls.specs.paired_code.Machine.{Image, state}
 use Rattle.refine_calls.specs.paired_code.Pieces.{Outcome, Done, Trapped, Bad, Still, Will}
 use Rattle.refine_calls.specs.paired_code.Link.{IsToldBy, Whole, Linked}
-use Rattle.refine_calls.specs.paired_code.Does.{Rates, Told, Fine, Fault, More, Meets, fine, faults, more}
+use Rattle.refine_calls.specs.paired_code.Does.{Rates, RunResult, Fine, Fault, More, Meets, fine, faults, more}
 use Rattle.refine_calls.proofs.paired_code_laws.Whole.{whole_will}
 use Rattle.static_layout.specs.roopl_semantics.Run.{Run, Done as DoneRun, Fault as FaultRun, More as MoreRun}
 use Rattle.static_layout.specs.roopl_semantics.Store.{State}
@@ -28,7 +28,7 @@ use Rattle.static_layout.specs.roopl_semantics.Layout.{layout}
 use Rattle.static_layout.specs.roopl_semantics.StandsFor.{Follows, run_of, IsFinalState, EndsAt, IsEnough, cost_of}
 use Rattle.static_layout.proofs.roopl_semantics_laws.MoreFuel.{within_done, within_fault, done_within, fault_within}
 use Rattle.static_layout.proofs.roopl_semantics_laws.CostBound.{exec_done_within, exec_fault_within}
-use Rattle.refine_calls.specs.refine_form.Form.{told}
+use Rattle.refine_calls.specs.refine_form.Form.{run_result}
 use Rattle.refine_calls.specs.refine_form.Worlds.{rates_of}
 use Rattle.refine_calls.specs.method_calls.Laws.{quiet}
 
@@ -57,19 +57,19 @@ bound_before code (suc m) j s s' e =
 
 -- ---- what the source gives
 
-told_done : {A : Type 0} (r : Run A) (a : A) (c : ℕ) → told r ≡ Fine a c → r ≡ DoneRun a c
+told_done : {A : Type 0} (r : Run A) (a : A) (c : ℕ) → run_result r ≡ Fine a c → r ≡ DoneRun a c
 told_done (DoneRun a2 c2) a c e = let h : a2 ≡ a = cc in let k : c2 ≡ c = cc in ap (λ z. DoneRun z c2) h
     ∙ ap (DoneRun a) k
 told_done (FaultRun w c2) a c e = absurd (cc)
 told_done MoreRun a c e = absurd (cc)
 
-told_fault : {A : Type 0} (r : Run A) (w c : ℕ) → told r ≡ Fault w c → r ≡ FaultRun w c
+told_fault : {A : Type 0} (r : Run A) (w c : ℕ) → run_result r ≡ Fault w c → r ≡ FaultRun w c
 told_fault (DoneRun a2 c2) w c e = absurd (cc)
 told_fault (FaultRun w2 c2) w c e = let h : w2 ≡ w = cc in let k : c2 ≡ c = cc in ap (λ z. FaultRun z c2) h
     ∙ ap (FaultRun w) k
 told_fault MoreRun w c e = absurd (cc)
 
-told_more : {A : Type 0} (r : Run A) → told r ≡ More → r ≡ MoreRun
+told_more : {A : Type 0} (r : Run A) → run_result r ≡ More → r ≡ MoreRun
 told_more (DoneRun a2 c2) e = absurd (cc)
 told_more (FaultRun w2 c2) e = absurd (cc)
 told_more MoreRun e = refl
@@ -121,7 +121,7 @@ module _ (program : Source) (image : Segments) (places : List ℕ) (main : List 
   abbrev said : ℕ → Run State
   said n = exec setting n (main_body program) (starting program input)
 
-  module _ (main_does : (n : ℕ) → Will im main false first (Meets Final b n 900 (told (said n)))) where
+  module _ (main_does : (n : ℕ) → Will im main false first (Meets Final b n 900 (run_result (said n)))) where
     -- how the image's run goes, by what the source says with fuel n
     data Case (n : ℕ) : Type 0 where
       finishes : (end : State) (m' : Memory) (c k : ℕ) → said n ≡ DoneRun end c → Final end m' → k ≤ 1000 * c + 900
@@ -133,7 +133,7 @@ module _ (program : Source) (image : Segments) (places : List ℕ) (main : List 
       goes_on : (k : ℕ) (s : MachineState) → said n ≡ MoreRun → n ≤ b.counts * (k + 1)
           → steps image.code (k + 1) (loaded_state image limits input) ≡ Some s → Case n
 
-    case_of : (n : ℕ) (t : Told State) → told (said n) ≡ t → (o : Outcome) → Whole image.code (1 + length main) first o
+    case_of : (n : ℕ) (t : RunResult State) → run_result (said n) ≡ t → (o : Outcome) → Whole image.code (1 + length main) first o
         → Meets Final b n 900 t o → Case n
     case_of n _ e _ wh (fine {a = end} {m = m'} {c = c} {k = k} f l u) =
         finishes end m' c k (told_done (said n) end c e) f u (λ j. wh.goes j)
@@ -142,11 +142,11 @@ module _ (program : Source) (image : Segments) (places : List ℕ) (main : List 
     case_of n _ e _ wh (more {k = k} l) = goes_on k wh.goes.0 (told_more (said n) e) l wh.goes.1
 
     whole_for : (n : ℕ) → (o : Outcome) × Whole image.code (1 + length main) first o
-        × Meets Final b n 900 (told (said n)) o
-    whole_for n = whole_will main routines im first (Meets Final b n 900 (told (said n))) linked short (main_does n)
+        × Meets Final b n 900 (run_result (said n)) o
+    whole_for n = whole_will main routines im first (Meets Final b n 900 (run_result (said n))) linked short (main_does n)
 
     case : (n : ℕ) → Case n
-    case n = let q = whole_for n in case_of n (told (said n)) refl q.0 q.1 q.2
+    case n = let q = whole_for n in case_of n (run_result (said n)) refl q.0 q.1 q.2
 
     -- enough fuel to decide a run of m steps
     abbrev fuel_for : ℕ → ℕ
@@ -186,14 +186,14 @@ module _ (program : Source) (image : Segments) (places : List ℕ) (main : List 
 
     -- ---- START and FINISH are met once
 
-    told_long : (m : ℕ) (t : Told State) (o : Outcome) → Meets Final b (fuel_for m) 900 t o → IsToldBy o m
+    told_long : (m : ℕ) (t : RunResult State) (o : Outcome) → Meets Final b (fuel_for m) 900 t o → IsToldBy o m
     told_long m t (Done m' k) h = tt
     told_long m t (Trapped v k) h = tt
     told_long m t (Bad v k) h = tt
     told_long m t (Still k) (more l) = let deep : m + 1 ≤ k = far b.counts m k l in omega (arith, deep)
 
     met : (m : ℕ) → MeetsEndsOnce image.code m (loaded_state image limits input)
-    met m = let q = whole_for (fuel_for m) in q.1.ends_once m (told_long m (told (said (fuel_for m))) q.0 q.2)
+    met m = let q = whole_for (fuel_for m) in q.1.ends_once m (told_long m (run_result (said (fuel_for m))) q.0 q.2)
 
     -- ---- what the source gives
 

@@ -21,7 +21,7 @@ use Rattle.refine_calls.specs.paired_code.Cells.{swapbr}
 use Rattle.refine_calls.specs.paired_code.declared.part.Symbol.{Symbol}
 use Rattle.refine_calls.specs.paired_code.Machine.{Image}
 use Rattle.refine_calls.specs.paired_code.Layout.{Routine}
-use Rattle.refine_calls.specs.paired_code.Link.{places, first_top, AllPlaced, Linked}
+use Rattle.refine_calls.specs.paired_code.Link.{link_positions, first_top, AllPlaced, Linked}
 use Rattle.refine_calls.proofs.paired_code_laws.Call.{on_line}
 use Rattle.static_layout.specs.roopl_semantics.Layout.{HasStatics}
 use Rattle.refine_program.specs.Methods.{method_place, table_places, statics_of}
@@ -72,27 +72,27 @@ past_all [] r h = refl
 past_all (x ∷ xs) zero h = absurd (omega arith)
 past_all (x ∷ xs) (suc r) h = past_all xs r (omega arith)
 
-as_many_places : (t : ℕ) (bs : List (List Symbol)) → length (places t bs) ≡ length bs
+as_many_places : (t : ℕ) (bs : List (List Symbol)) → length (link_positions t bs) ≡ length bs
 as_many_places t [] = refl
 as_many_places t (b ∷ bs) = ap suc (as_many_places (t + 1 + 1 + 1 + length b + 1) bs)
 
 module _ (code : List Cell) (main : List Symbol) (routines : List (List Symbol))
-    (linked : Linked main routines (record { code = code; routines = places (first_top main) routines }))
+    (linked : Linked main routines (record { code = code; routines = link_positions (first_top main) routines }))
     (some : 0 < length routines) where
   abbrev im : Image
-  im = record { code = code; routines = places (first_top main) routines }
+  im = record { code = code; routines = link_positions (first_top main) routines }
 
-  pub place_in : (r : ℕ) → slice_index (places (first_top main) routines) r < length code
+  pub place_in : (r : ℕ) → slice_index (link_positions (first_top main) routines) r < length code
   place_in r = by (nat_lt r (length routines)) refl
     where
-      by : (b : Bool) → nat_lt r (length routines) ≡ b → slice_index (places (first_top main) routines) r < length code
+      by : (b : Bool) → nat_lt r (length routines) ≡ b → slice_index (link_positions (first_top main) routines) r < length code
       by true e =
           let s = stands_at im main routines linked r (ltb-true r (length routines) e) in
           let l = place_low im r (top_of (first_top main) routines r) (body_at routines r) s in
           subst (λ n. n < length code) (sym s.listed) l
       by false e =
           let past = ltb-false r (length routines) e in
-          let z = past_all (places (first_top main) routines) r
+          let z = past_all (link_positions (first_top main) routines) r
           (omega (arith, past, as_many_places (first_top main) routines)) in
           let l = place_low im 0 (top_of (first_top main) routines 0) (body_at routines 0)
           (stands_at im main routines linked 0 some) in

@@ -16,14 +16,14 @@ use Rattle.refine_calls.specs.class_rules.Program.{IsAccepted}
 use Rattle.refine_calls.specs.pisa_isa.Image.{Segments}
 use Rattle.refine_calls.specs.code_conventions.declared.memory.TheConstants.{HEADER_WORDS, TABLE_HEADER}
 use Rattle.refine_calls.specs.paired_code.declared.part.Symbol.{Symbol}
-use Rattle.refine_calls.specs.paired_code.Link.{places, first_top, Linked}
+use Rattle.refine_calls.specs.paired_code.Link.{link_positions, first_top, Linked}
 use Rattle.static_layout.specs.roopl_semantics.StandsFor.{StandsFor}
 use Rattle.refine_calls.specs.buddy_pisa.Promise.{AllocatorLaw}
-use Rattle.refine_calls.specs.refine_form.Form.{Routines, MethodLaw, Owes}
+use Rattle.refine_calls.specs.refine_form.Form.{MethodRoutines, MethodLaw, Owes}
 use Rattle.refine_calls.specs.refine_form.Worlds.{Place, world_of}
 use Rattle.refine_calls.specs.method_calls.Laws.{MainCode}
 use Rattle.refine_calls.specs.Laws.{IsLinked, IsRouted}
-use Rattle.refine_program.specs.Methods.{Entry, entries, entry_at, scope_at, routine_of, routine_in}
+use Rattle.refine_program.specs.Methods.{RoutineEntry, entries, entry_at, scope_at, routine_of, routine_in}
 use Rattle.refine_program.specs.Methods.{main_routine, statics_of}
 
 -- ---- the routines of the methods
@@ -42,7 +42,7 @@ MethodsHaveRoutines =
 
 -- a call finds the routine of the method that its name means in the class of the object
 pub record FindsRoutine (program : Source) (own : ℕ) (name : Ident) : Type 0 where
-  pub entry : Entry
+  pub entry : RoutineEntry
   pub there : entry_at (entries program) (routine_in program own name) ≡ entry
   pub below : routine_in program own name < length (entries program)
   pub method_is : entry.method ≡ method_named program own name.text
@@ -58,13 +58,13 @@ CallsFindRoutines =
 -- ---- their code
 
 -- the code has the law of its method at every place of an image that is linked from the program
-pub record IsRoutineCode (program : Source) (entry : Entry) (cells : List Symbol) : Type 0 where
+pub record IsRoutineCode (program : Source) (entry : RoutineEntry) (cells : List Symbol) : Type 0 where
   pub law : (place : Place) (routine : ℕ → Ident → ℕ) → IsLinked place routine
       → place.setting.program ≡ program
       → MethodLaw (world_of place) (scope_at entry) entry.method cells
 
 -- one code for each of the methods
-abbrev pub AreRoutineCodes : Source → List Entry → List (List Symbol) → Type 0
+abbrev pub AreRoutineCodes : Source → List RoutineEntry → List (List Symbol) → Type 0
 AreRoutineCodes program [] [] = Unit {0}
 AreRoutineCodes program [] (body ∷ bodies) = ⊥
 AreRoutineCodes program (entry ∷ methods) [] = ⊥
@@ -73,15 +73,15 @@ AreRoutineCodes program (entry ∷ methods) (body ∷ bodies) =
 
 -- the codes of the first methods of a program, if these are left
 pub record AreFirstCodes (program : Source) (bodies : List (List Symbol))
-    (left : List Entry) : Type 0 where
-  pub done : List Entry
+    (left : List RoutineEntry) : Type 0 where
+  pub done : List RoutineEntry
   pub codes : AreRoutineCodes program done bodies
   pub all : done ++ left ≡ entries program
 
 -- the code of all methods is made one by one: of none, of one more, of all
 pub record CodesAreMade (program : Source) : Type 0 where
   pub begins : AreFirstCodes program [] (entries program)
-  pub goes_on : (bodies : List (List Symbol)) (entry : Entry) (left : List Entry)
+  pub goes_on : (bodies : List (List Symbol)) (entry : RoutineEntry) (left : List RoutineEntry)
       (body : List Symbol)
       → AreFirstCodes program bodies (entry ∷ left) → IsRoutineCode program entry body
       → AreFirstCodes program (bodies ++ body ∷ []) left
@@ -105,8 +105,8 @@ pub record IsProgramImage
   pub allocates : AllocatorLaw allocator
   pub codes : AreRoutineCodes program (entries program) bodies
   pub linked : Linked main (allocator ∷ bodies)
-      (record { code = image.code; routines = places (first_top main) (allocator ∷ bodies) })
-  pub statics : image.statics ≡ statics_of program 1 (places (first_top main) (allocator ∷ bodies))
+      (record { code = image.code; routines = link_positions (first_top main) (allocator ∷ bodies) })
+  pub statics : image.statics ≡ statics_of program 1 (link_positions (first_top main) (allocator ∷ bodies))
 
 -- it implements the program
 abbrev pub LinkedProgramsStand : Type 0
@@ -119,7 +119,7 @@ LinkedProgramsStand =
 
 -- the routines of the methods in the order of the source, with these bodies, whose tops are there:
 -- the routine of the allocator comes before them
-abbrev pub method_routines : Source → (bodies : List (List Symbol)) → (tops : ℕ → ℕ) → Routines
+abbrev pub method_routines : Source → (bodies : List (List Symbol)) → (tops : ℕ → ℕ) → MethodRoutines
 method_routines program bodies tops = record {
   count = length (entries program);
   number = λ r. 1 + r;
@@ -130,9 +130,9 @@ method_routines program bodies tops = record {
 }
 
 -- an image of the program with these routines, whose places are `starts`, and some limits
-abbrev pub place_of : Source → Segments → (starts : List ℕ) → (bodies : List (List Symbol))
+abbrev pub statement_address : Source → Segments → (starts : List ℕ) → (bodies : List (List Symbol))
     → (tops : ℕ → ℕ) → Limits → Place
-place_of program image starts bodies tops limits = record {
+statement_address program image starts bodies tops limits = record {
   setting = record { program = program; limits = limits };
   statics = image.statics;
   im = record { code = image.code; routines = starts };
@@ -148,9 +148,9 @@ pub record HasRoutines (program : Source) (image : Segments) (starts : List ℕ)
   pub bodies : List (List Symbol)
   pub tops : ℕ → ℕ
   pub linked : (limits : Limits)
-      → IsRouted (place_of program image starts bodies tops limits) (routine_in program)
+      → IsRouted (statement_address program image starts bodies tops limits) (routine_in program)
   pub owed : (limits : Limits) (fuel : ℕ)
-      → Owes (world_of (place_of program image starts bodies tops limits)) fuel
+      → Owes (world_of (statement_address program image starts bodies tops limits)) fuel
 
 -- such an image has them
 abbrev pub ProgramImagesHaveRoutines : Type 0
@@ -158,7 +158,7 @@ ProgramImagesHaveRoutines =
     (program : Source) (main allocator : List Symbol) (bodies : List (List Symbol))
     (image : Segments)
     → IsProgramImage program main allocator bodies image
-    → HasRoutines program image (places (first_top main) (allocator ∷ bodies))
+    → HasRoutines program image (link_positions (first_top main) (allocator ∷ bodies))
 
 -- ---- its static cells
 
@@ -168,5 +168,5 @@ most_cells = HEADER_WORDS + MOST_FIELDS + MOST_CLASSES * (TABLE_HEADER + MOST_ME
 
 abbrev pub StaticsAreFew : Type 0
 StaticsAreFew =
-    (program : Source) → IsAccepted program → (before : ℕ) (places : List ℕ)
-    → length (statics_of program before places) ≤ most_cells
+    (program : Source) → IsAccepted program → (before : ℕ) (link_positions : List ℕ)
+    → length (statics_of program before link_positions) ≤ most_cells

@@ -15,33 +15,33 @@ use Rattle.refine_calls.specs.refine_form.Form.{Scope}
 -- ---- the methods
 
 -- a method with the number of the class that it is written in
-pub record Entry : Type 0 where
+pub record RoutineEntry : Type 0 where
   pub class : ℕ
   pub method : Procedure
 
 -- the methods of a class
-abbrev pub entries_of : ℕ → List Procedure → List Entry
+abbrev pub entries_of : ℕ → List Procedure → List RoutineEntry
 entries_of class [] = []
 entries_of class (method ∷ methods) = record { class = class; method = method }
     ∷ entries_of class methods
 
 -- the methods of these classes, the first of which has this number
-abbrev pub entries_from : ℕ → List ClassText → List Entry
+abbrev pub entries_from : ℕ → List ClassText → List RoutineEntry
 entries_from number [] = []
 entries_from number (class ∷ classes) =
     entries_of number class.methods ++ entries_from (number + 1) classes
 
 -- all methods in the order of the text
-abbrev pub entries : Source → List Entry
+abbrev pub entries : Source → List RoutineEntry
 entries program = entries_from 0 program.classes
 
-abbrev pub entry_at : List Entry → ℕ → Entry
+abbrev pub entry_at : List RoutineEntry → ℕ → RoutineEntry
 entry_at methods number = unwrap_or (slice_get methods number)
     (record { class = 0; method = no_procedure })
 
 -- what is visible at the beginning of a method: its parameters, the first of which is the innermost
 -- variable
-abbrev pub scope_at : Entry → Scope
+abbrev pub scope_at : RoutineEntry → Scope
 scope_at entry = record { class = entry.class; vars = entry.method.params }
 
 -- ---- the numbers of their routines, which are in the same order

@@ -11,7 +11,7 @@ use Rattle.meaning_sound.specs.roopl_semantics.Store.{State}
 use Rattle.meaning_sound.specs.roopl_semantics.Source.{GivesDone, GivesFault}
 use Rattle.meaning_sound.specs.roopl_semantics.Layout.{layout}
 use Rattle.meaning_sound.specs.roopl_semantics.StandsFor.{run_of}
-use Rattle.bennett_wrap.specs.Wrapped.{FinishesWith, TrapsWith, values_at, steps_wrapped}
+use Rattle.bennett_wrap.specs.Wrapped.{WrapFinishesWith, WrapTrapsWith, values_at, steps_wrapped}
 use Rattle.refine_wrap.specs.Programs.{wrapped_run}
 
 -- the source gives a store, and the wrapped run adds to the first memory what its layout has at the cells
@@ -19,7 +19,7 @@ pub record Adds (program : Source) (image : Segments) (cells : List ℕ) (wrappe
     (input : List FieldWord) (m enough : ℕ) : Type 0 where
   pub end : State
   pub gives : GivesDone program limits input end
-  pub finishes : FinishesWith (wrapped_run image cells wrapped limits input enough)
+  pub finishes : WrapFinishesWith (wrapped_run image cells wrapped limits input enough)
       (steps_wrapped (run_of image limits input m).spent cells)
       (loaded image.statics limits input ++ values_at (layout program limits image.statics end.store end.log) cells)
 
@@ -27,7 +27,7 @@ pub record Adds (program : Source) (image : Segments) (cells : List ℕ) (wrappe
 pub record Faults (program : Source) (image : Segments) (cells : List ℕ) (wrapped : List Cell) (limits : Limits)
     (input : List FieldWord) (m enough w : ℕ) : Type 0 where
   pub gives : GivesFault program limits input w
-  pub traps : TrapsWith (wrapped_run image cells wrapped limits input enough) w (run_of image limits input m).spent
+  pub traps : WrapTrapsWith (wrapped_run image cells wrapped limits input enough) w (run_of image limits input m).spent
       (length (loaded image.statics limits input)) (length cells)
 
 pub record WrapsProgram (program : Source) (image : Segments) (cells : List ℕ) (wrapped : List Cell) (limits : Limits)

@@ -13,7 +13,7 @@ use Rattle.bennett_wrap.specs.code_conventions.Header.{header}
 use Rattle.meaning_sound.specs.buddy_book.Place.{Log, Placing, place}
 use Rattle.bennett_wrap.specs.code_conventions.declared.memory.TheConstants.{HEADER_WORDS}
 use Rattle.meaning_sound.specs.roopl_semantics.Store.{Word, Store, Object, main_name, object_at}
-use Rattle.meaning_sound.specs.roopl_semantics.Layout.{layout, no_placing, word_of, object_words, first_address, heap_words}
+use Rattle.meaning_sound.specs.roopl_semantics.Layout.{layout, no_placing, word_of_value, object_words, first_address, heap_words}
 use Rattle.refine_wrap.specs.Programs.{field_cell}
 
 behind_header : (a b : ℕ) (xs : List ℕ) (k : ℕ) → get_or (header a b ++ xs) (HEADER_WORDS + k) 0 ≡ get_or xs k 0
@@ -44,12 +44,12 @@ field_at program limits statics store log at k w placed low h is =
     let placing : Placing = unwrap_or (place limits.heap log) no_placing in
     let base : ℕ = heap_base limits.heap (length statics) in
     let object : Object = object_at store main_name in
-    let words : List ℕ = map (word_of base placing.blocks) object.cells in
+    let words : List ℕ = map (word_of_value base placing.blocks) object.cells in
     let main : List ℕ = object_words program base placing.blocks object in
     let few : length placing.book ≡ length at.book = ap (λ o. length (unwrap_or o no_placing).book) placed in
     let heads : length (map (first_address base) placing.book) ≤ 31 =
     omega (arith, length-map placing.book (first_address base)) in
-    let long : length words ≡ length object.cells = length-map object.cells (word_of base placing.blocks) in
+    let long : length words ≡ length object.cells = length-map object.cells (word_of_value base placing.blocks) in
     let within : HEADER_WORDS + k < length main = omega arith in
     let there : field_cell k ≡ FIXED_CELLS + (HEADER_WORDS + k) = omega arith in
     ap (slice_index (layout program limits statics store log)) there
@@ -59,5 +59,5 @@ field_at program limits statics store log at k w placed low h is =
     (HEADER_WORDS + k)
     (length-fixed_cells limits.heap limits.deep base (map (first_address base) placing.book) heads) within
     ∙ behind_header _ _ words k
-    ∙ get_or-map (word_of base placing.blocks) object.cells k (Word 0) 0 h
-    ∙ ap (word_of base placing.blocks) is
+    ∙ get_or-map (word_of_value base placing.blocks) object.cells k (Word 0) 0 h
+    ∙ ap (word_of_value base placing.blocks) is

@@ -22,7 +22,7 @@ use Rattle.meaning_sound.specs.roopl_semantics.Store.{Value, Word, Nil, Name, He
 use Rattle.meaning_sound.specs.roopl_semantics.Store.{object_named, object_at}
 use Rattle.meaning_sound.specs.roopl_semantics.Source.{GivesDone, IsValid, main_fields, is_int_type, is_int_field, starting}
 use Rattle.meaning_sound.specs.roopl_semantics.Layout.{layout}
-use Rattle.meaning_sound.specs.Sound.{head_of, head_named, named_fits, fits, cell_kinds, AllFit, Keeps, main_alone}
+use Rattle.meaning_sound.specs.Sound.{head_of, head_named, named_fits, is_of_kind, cell_kinds, AllFit, Keeps, main_alone}
 use Rattle.meaning_sound.proofs.Lists.{all_get, all_inside}
 use Rattle.meaning_sound.proofs.Plainness.{program_plain}
 use Rattle.meaning_sound.proofs.Starting.{end_sound}
@@ -52,7 +52,7 @@ no_int_named program None = refl
 no_int_named program (Some head) = refl
 
 word_in : (program : Source) (store : Store) (cells : List Value) (field : ℕ) (word : ℕ → ℕ) (o : Option Value)
-    → slice_get cells field ≡ o → fits program store (unwrap_or o Nil) kind.Int ≡ true
+    → slice_get cells field ≡ o → is_of_kind program store (unwrap_or o Nil) kind.Int ≡ true
     → ((w : ℕ) → get_or cells field (Word 0) ≡ Word w → word field ≡ w)
     → slice_get cells field ≡ Some (Word (word field))
 word_in program store cells field word None e fit is = absurd (let no : false ≡ true = fit in cc)

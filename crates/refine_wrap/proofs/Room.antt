@@ -22,7 +22,7 @@ use Rattle.bennett_wrap.specs.rpp_words.Limits.{IsLimits}
 use Rattle.meaning_sound.specs.roopl_semantics.Source.{IsValid}
 use Rattle.meaning_sound.specs.roopl_semantics.Layout.{layout}
 use Rattle.meaning_sound.specs.roopl_semantics.StandsFor.{StandsFor, Follows, run_of}
-use Rattle.bennett_wrap.specs.Wrapped.{HasRoom, Wrapped, FinishesWith, values_at, steps_wrapped}
+use Rattle.bennett_wrap.specs.Wrapped.{HasWrapSpace, Wrapped, WrapFinishesWith, values_at, steps_wrapped}
 use Rattle.refine_wrap.specs.Programs.{IsStatic, wrapped_run}
 use Rattle.refine_wrap.proofs.Bounds.{WrapsProgram}
 
@@ -50,7 +50,7 @@ room_of s p h d m n a b c e f g = omega arith
 
 pub has_room : (image : Segments) (cells : List ℕ) (limits : Limits) (input : List FieldWord) → IsImage image
     → length cells ≤ 64 → All (IsStatic image) cells → IsLimits limits → All IsWord (loaded image.statics limits input)
-    → HasRoom (loaded image.statics limits input) cells
+    → HasWrapSpace (loaded image.statics limits input) cells
 has_room image cells limits input i few statics l words =
     let low = l.heap_from in
     let high = l.heap_to in
@@ -96,7 +96,7 @@ wraps_program program image cells wrapped limits input i stands wraps few static
           record {
             end = end;
             gives = final.gives;
-            finishes = subst (λ (b : List ℕ). FinishesWith (wrapped_run image cells wrapped limits input enough)
+            finishes = subst (λ (b : List ℕ). WrapFinishesWith (wrapped_run image cells wrapped limits input enough)
                 (steps_wrapped (run_of image limits input m).spent cells) (a ++ values_at b cells)) final.cells ends;
           };
       faults = λ m enough w trap le. record {

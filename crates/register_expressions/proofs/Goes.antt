@@ -13,8 +13,8 @@ use Rattle.code_scope.specs.paired_code.declared.part.Symbol.{Symbol}
 use Rattle.code_scope.specs.paired_code.declared.part.Symbol.TheVariants.{Own}
 use Rattle.code_scope.specs.paired_code.Machine.{Image, is_single}
 use Rattle.code_scope.specs.paired_code.Layout.{mirror_cells, Test, test_cells}
-use Rattle.code_scope.specs.paired_code.Pieces.{Outcome, Done, Trapped, Bad, Runs, after}
-use Rattle.code_scope.specs.paired_code.Laws.{outcome_of, Passes, Fails}
+use Rattle.code_scope.specs.paired_code.Pieces.{Outcome, Done, Trapped, Bad, Runs, outcome_after}
+use Rattle.code_scope.specs.paired_code.Laws.{outcome_of, TestPasses, TestFails}
 use Rattle.code_scope.proofs.paired_code_laws.Small.{runs_empty, runs_single}
 use Rattle.code_scope.proofs.paired_code_laws.Checks.{runs_passes, runs_fails}
 use Rattle.code_scope.proofs.paired_code_laws.Contract.{seq_law, mirror_law}
@@ -37,11 +37,11 @@ at_memory : {im : Image} {q : List Symbol} {d : Bool} {m1 : Memory} {k1 : ℕ} {
 at_memory {im = im} {q = q} {d = d} {o = o} r m' k e = subst (λ z. Runs im q d z o) (done_memory e) r
 
 seq_runs : (im : Image) (p q : List Symbol) (m m1 : Memory) (k1 : ℕ) (o : Outcome) → Runs im p false m (Done m1 k1)
-    → Runs im q false m1 o → Runs im (p ++ q) false m (after k1 o)
+    → Runs im q false m1 o → Runs im (p ++ q) false m (outcome_after k1 o)
 seq_runs im p q m m1 k1 o r s = (seq_law p q).ahead im m (Done m1 k1) (λ z. o) r (λ m' k e. at_memory s m' k e)
 
 seq_back : (im : Image) (p q : List Symbol) (m m1 : Memory) (k1 : ℕ) (o : Outcome) → Runs im q true m (Done m1 k1)
-    → Runs im p true m1 o → Runs im (p ++ q) true m (after k1 o)
+    → Runs im p true m1 o → Runs im (p ++ q) true m (outcome_after k1 o)
 seq_back im p q m m1 k1 o r s = (seq_law p q).back im m (Done m1 k1) (λ z. o) r (λ m' k e. at_memory s m' k e)
 
 seq_traps : (im : Image) (p q : List Symbol) (m : Memory) (w k : ℕ) → Runs im p false m (Trapped w k)
@@ -251,11 +251,11 @@ goes_exch c put a x cells h s w e e' =
     ∙ ap (λ z. Done (put x z) 1) back)
 
 -- a check passes if its test holds, and else stops at once
-pub goes_check : (t : Test) (code : ℕ) (m : Memory) → Passes t m → Goes (test_cells t code) 2 m m
+pub goes_check : (t : Test) (code : ℕ) (m : Memory) → TestPasses t m → Goes (test_cells t code) 2 m m
 goes_check t code m h = record {
   ahead = λ im. runs_passes im false t code m h;
   back = λ im. runs_passes im true t code m h;
 }
 
-pub traps_check : (t : Test) (code : ℕ) (m : Memory) → Fails t m → Traps (test_cells t code) 1 code m
+pub traps_check : (t : Test) (code : ℕ) (m : Memory) → TestFails t m → Traps (test_cells t code) 1 code m
 traps_check t code m h = record { ahead = λ im. (1, omega arith, runs_fails im false t code m h) }

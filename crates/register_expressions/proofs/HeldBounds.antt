@@ -15,10 +15,10 @@ use Rattle.register_expressions.specs.declared.held.Kind.{Kind}
 use Rattle.register_expressions.specs.declared.held.Kind.TheVariants.{Changes, Gives, Joins, Neither}
 use Rattle.register_expressions.specs.Held.{kind, own, need, told_need, left_at, right_at, is_held, is_near}
 use Rattle.register_expressions.specs.Held.{is_variable, has_parts, has_element, is_opened_once, is_near_index}
-use Rattle.register_expressions.specs.Held.{is_literal, literal_in, is_zero, spot_in, past, is_truth}
+use Rattle.register_expressions.specs.Held.{is_literal, literal_in, is_zero_literal, expression_spot, past, is_truth}
 use Rattle.register_expressions.specs.Steps.{operator_steps, before_steps, core_steps, told_steps, operated_steps}
 use Rattle.register_expressions.specs.Steps.{held_steps, given_steps}
-use Rattle.register_expressions.specs.Steps.{held_value_steps, held_truth_steps, held_test_steps, tokens}
+use Rattle.register_expressions.specs.Steps.{held_value_steps, held_truth_steps, held_test_steps, token_count}
 use Rattle.code_scope.specs.code_conventions.declared.registers.TheConstants.{CONTENT, NOUGHT}
 
 pub some_nodes : (e : Expression) → 1 ≤ nodes e
@@ -149,8 +149,8 @@ operated_most Changes o left right w v =
     omega arith
 operated_most Gives o left right w v =
     let a = operator_most o in
-    let c = before_most (is_zero right) (is_variable left) (is_variable right) w v in
-    let e = core_most (is_zero right) (is_variable left) (is_variable right) (operator_steps o) in
+    let c = before_most (is_zero_literal right) (is_variable left) (is_variable right) w v in
+    let e = core_most (is_zero_literal right) (is_variable left) (is_variable right) (operator_steps o) in
     omega arith
 operated_most Neither o left right w v = omega arith
 
@@ -179,8 +179,8 @@ given_most at Gives o left right =
     let a = held_most left in
     let c = held_most right in
     let d = operator_most o in
-    let p = before_most (is_zero right) (is_variable left) (is_variable right) (held_steps left) (held_steps right) in
-    let q = core_most (is_zero right) (is_variable left) (is_variable right) (operator_steps o) in
+    let p = before_most (is_zero_literal right) (is_variable left) (is_variable right) (held_steps left) (held_steps right) in
+    let q = core_most (is_zero_literal right) (is_variable left) (is_variable right) (operator_steps o) in
     omega arith
 
 value_most : (e : Expression) → held_value_steps e ≤ 52 * nodes e + 9
@@ -225,7 +225,7 @@ literal_node (Variable name) = tt
 literal_node (Element name index) = tt
 literal_node (Binary at o left right) = tt
 
-zero_node : (e : Expression) → one_node (is_zero e) (nodes e)
+zero_node : (e : Expression) → one_node (is_zero_literal e) (nodes e)
 zero_node (Number at word) = by (nat_eq word 0)
   where
     by : (t : Bool) → one_node t 1
@@ -291,7 +291,7 @@ operated_least : (c : Kind) (o : BinOp) (left right : Expression) (w v : ℕ) �
     → nodes left + nodes right + 2 ≤ 2 * operated_steps c o left right w v
 operated_least Changes o left right w v f l h k = literal_least (is_literal right) (is_variable right) w v (nodes left)
     (nodes right) (operator_steps o) (literal_node right) (variable_node right) h k l
-operated_least Gives o left right w v f l h k = both_least (is_zero right) (is_variable left) (is_variable right) w v
+operated_least Gives o left right w v f l h k = both_least (is_zero_literal right) (is_variable left) (is_variable right) w v
     (nodes left) (nodes right) (operator_steps o) (zero_node right) (variable_node left) (variable_node right) h k l
 operated_least Joins o left right w v f l h k =
     let a = told_least (is_truth left) w in
@@ -322,7 +322,7 @@ given_least at o left right h Joins =
     omega arith
 given_least at o left right h Gives =
     let s = own_some (kind o) (is_truth left) (is_truth right) (omega arith) in
-    let a = around_least (is_zero right) (is_variable left) (is_variable right) (held_steps left) (held_steps right)
+    let a = around_least (is_zero_literal right) (is_variable left) (is_variable right) (held_steps left) (held_steps right)
     (nodes left) (nodes right) (operator_steps o) (zero_node right) (variable_node left) (variable_node right)
     (held_least left (omega arith)) (held_least right (omega arith)) (operator_least o s) in
     omega arith
@@ -348,7 +348,7 @@ held_test_least e h = by (is_truth e)
 
 -- ---- cells
 
-some_tokens : (e : Expression) → 1 ≤ tokens e
+some_tokens : (e : Expression) → 1 ≤ token_count e
 some_tokens (Number at word) = omega arith
 some_tokens (Null at) = omega arith
 some_tokens (Variable name) = omega arith
@@ -413,21 +413,21 @@ module _ (spot : List ℕ → Spot) where
       → length (Code.operated_cells spot c o left right w v k) ≤ length w + length v + 7
   operated_length Changes o left right w v k =
       let p = Code.before (is_literal right) false (is_variable right) w v in
-      let c = Code.core false false (is_variable right) (spot_in spot left) (spot_in spot right) (Code.part k)
+      let c = Code.core false false (is_variable right) (expression_spot spot left) (expression_spot spot right) (Code.part k)
       (Code.part (k + need left)) (λ a s. Code.change_cells o a s) in
       let q = if is_literal right then Code.literal_cells o (Code.part k) (literal_in right) else c in
       let a = before_length (is_literal right) false (is_variable right) w v in
       let d = changed_length (is_literal right) o (Code.part k) (literal_in right) c
-      (core_length false false (is_variable right) (spot_in spot left) (spot_in spot right) (Code.part k)
+      (core_length false false (is_variable right) (expression_spot spot left) (expression_spot spot right) (Code.part k)
       (Code.part (k + need left)) (λ a s. Code.change_cells o a s) (λ a s. change_length o a s)) in
       omega (arith, length-append p q)
   operated_length Gives o left right w v k =
-      let p = Code.before (is_zero right) (is_variable left) (is_variable right) w v in
-      let q = Code.core (is_zero right) (is_variable left) (is_variable right) (spot_in spot left) (spot_in spot right)
+      let p = Code.before (is_zero_literal right) (is_variable left) (is_variable right) w v in
+      let q = Code.core (is_zero_literal right) (is_variable left) (is_variable right) (expression_spot spot left) (expression_spot spot right)
       (Code.part (k + 1)) (Code.part (k + 1 + need left)) (λ a s. Code.give_cells o (Code.part k) a s) in
-      let a = before_length (is_zero right) (is_variable left) (is_variable right) w v in
-      let c = core_length (is_zero right) (is_variable left) (is_variable right) (spot_in spot left)
-      (spot_in spot right) (Code.part (k + 1)) (Code.part (k + 1 + need left))
+      let a = before_length (is_zero_literal right) (is_variable left) (is_variable right) w v in
+      let c = core_length (is_zero_literal right) (is_variable left) (is_variable right) (expression_spot spot left)
+      (expression_spot spot right) (Code.part (k + 1)) (Code.part (k + 1 + need left))
       (λ a s. Code.give_cells o (Code.part k) a s) (λ a s. give_length o (Code.part k) a s) in
       omega (arith, length-append p q)
   operated_length Joins o left right w v k =
@@ -458,7 +458,7 @@ module _ (spot : List ℕ → Spot) where
         length_around (Code.reach_cells (spot name)) (Code.xor a CONTENT ∷ []),
       )
 
-  pub held_length : (e : Expression) (k : ℕ) → length (Code.held_cells spot e k) ≤ 12 * tokens e
+  pub held_length : (e : Expression) (k : ℕ) → length (Code.held_cells spot e k) ≤ 12 * token_count e
   held_length (Number at word) k = omega arith
   held_length (Null at) k = omega arith
   held_length (Variable name) k = omega (
@@ -486,7 +486,7 @@ module _ (spot : List ℕ → Spot) where
       omega arith
 
   plain_length : (e : Expression) (into : ℕ)
-      → length (Code.around (Code.held_cells spot e 0) (Code.xor into (Code.part 0) ∷ [])) ≤ 58 * tokens e
+      → length (Code.around (Code.held_cells spot e 0) (Code.xor into (Code.part 0) ∷ [])) ≤ 58 * token_count e
   plain_length e into =
       let a = held_length e 0 in
       let t = some_tokens e in
@@ -494,7 +494,7 @@ module _ (spot : List ℕ → Spot) where
 
   given_length : (at : ℕ) (c : Kind) (o : BinOp) (left right : Expression) (into : ℕ)
       → length (Code.given_cells spot c o left right (Binary at o left right) into)
-      ≤ 58 * tokens (Binary at o left right)
+      ≤ 58 * token_count (Binary at o left right)
   given_length at Changes o left right into = plain_length (Binary at o left right) into
   given_length at Neither o left right into = plain_length (Binary at o left right) into
   given_length at Joins o left right into =
@@ -512,19 +512,19 @@ module _ (spot : List ℕ → Spot) where
   given_length at Gives o left right into =
       let w = Code.held_cells spot left 0 in
       let v = Code.held_cells spot right (need left) in
-      let p = Code.before (is_zero right) (is_variable left) (is_variable right) w v in
-      let q = Code.core (is_zero right) (is_variable left) (is_variable right) (spot_in spot left) (spot_in spot right)
+      let p = Code.before (is_zero_literal right) (is_variable left) (is_variable right) w v in
+      let q = Code.core (is_zero_literal right) (is_variable left) (is_variable right) (expression_spot spot left) (expression_spot spot right)
       (Code.part 0) (Code.part (need left)) (λ a s. Code.give_cells o into a s) in
       let a = held_length left 0 in
       let c = held_length right (need left) in
-      let d = before_length (is_zero right) (is_variable left) (is_variable right) w v in
-      let e = core_length (is_zero right) (is_variable left) (is_variable right) (spot_in spot left)
-      (spot_in spot right) (Code.part 0) (Code.part (need left)) (λ a s. Code.give_cells o into a s)
+      let d = before_length (is_zero_literal right) (is_variable left) (is_variable right) w v in
+      let e = core_length (is_zero_literal right) (is_variable left) (is_variable right) (expression_spot spot left)
+      (expression_spot spot right) (Code.part 0) (Code.part (need left)) (λ a s. Code.give_cells o into a s)
       (λ a s. give_length o into a s) in
       omega (arith, length_around p q)
 
   pub held_value_length : (e : Expression) (into : ℕ)
-      → length (Code.held_value_cells spot e into) ≤ 58 * tokens e
+      → length (Code.held_value_cells spot e into) ≤ 58 * token_count e
   held_value_length (Number at word) into = omega arith
   held_value_length (Null at) into = plain_length (Null at) into
   held_value_length (Variable name) into = omega (
@@ -534,21 +534,21 @@ module _ (spot : List ℕ → Spot) where
   held_value_length (Element name index) into = plain_length (Element name index) into
   held_value_length (Binary at o left right) into = given_length at (kind o) o left right into
 
-  pub held_test_length : (e : Expression) (into : ℕ) → length (Code.held_test_cells spot e into) ≤ 58 * tokens e
+  pub held_test_length : (e : Expression) (into : ℕ) → length (Code.held_test_cells spot e into) ≤ 58 * token_count e
   held_test_length e into = by (is_truth e)
     where
       told : (t : Bool) → length (if t
-          then Code.around (Code.reach_cells (spot_in spot e)) (Code.truth_cells into CONTENT)
-          else Code.around (Code.held_cells spot e 0) (Code.truth_cells into (Code.part 0))) ≤ 58 * tokens e
+          then Code.around (Code.reach_cells (expression_spot spot e)) (Code.truth_cells into CONTENT)
+          else Code.around (Code.held_cells spot e 0) (Code.truth_cells into (Code.part 0))) ≤ 58 * token_count e
       told true =
           let t = some_tokens e in
-          omega (arith, length_around (Code.reach_cells (spot_in spot e)) (Code.truth_cells into CONTENT))
+          omega (arith, length_around (Code.reach_cells (expression_spot spot e)) (Code.truth_cells into CONTENT))
       told false =
           let a = held_length e 0 in
           let t = some_tokens e in
           omega (arith, length_around (Code.held_cells spot e 0) (Code.truth_cells into (Code.part 0)))
 
       by : (t : Bool) → length (if t then Code.held_value_cells spot e into
-          else Code.held_truth_cells spot e into) ≤ 58 * tokens e
+          else Code.held_truth_cells spot e into) ≤ 58 * token_count e
       by true = held_value_length e into
       by false = told (is_variable e)

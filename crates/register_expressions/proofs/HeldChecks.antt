@@ -8,7 +8,7 @@ use Rattle.code_scope.specs.code_conventions.declared.memory.TheConstants.{HEADE
 use Rattle.code_scope.specs.pisa_isa.Table.{word_of}
 use Rattle.code_scope.specs.code_conventions.declared.faults.TheConstants.{NIL, INDEX}
 use Rattle.code_scope.specs.code_conventions.declared.registers.TheConstants.{CONTENT, NOUGHT, OUTCOME}
-use Rattle.code_scope.specs.paired_code.Machine.{reg}
+use Rattle.code_scope.specs.paired_code.Machine.{memory_reg}
 use Rattle.code_scope.specs.paired_code.Layout.{Equal, Positive}
 use Rattle.code_scope.specs.rpp_words.Words.{is_less, sum_of}
 use Rattle.code_scope.specs.roopl_semantics.Operators.{truth_word}
@@ -40,10 +40,10 @@ module _ (n : ℕ) (f : ℕ → ℕ) (zs : List ℕ) (room : OUTCOME < n) (clear
     unflagged : known n (written f OUTCOME 0) zs ≡ known n f zs
     unflagged = known_same n _ _ zs (λ r l. written_same f OUTCOME 0 r clear)
 
-    flag_is : (z : ℕ) → reg (known n (written f OUTCOME z) zs) OUTCOME ≡ z
+    flag_is : (z : ℕ) → memory_reg (known n (written f OUTCOME z) zs) OUTCOME ≡ z
     flag_is z = known_at n (written f OUTCOME z) zs OUTCOME room ∙ written_at f OUTCOME z
 
-    nought_is : (z : ℕ) → reg (known n (written f OUTCOME z) zs) NOUGHT ≡ 0
+    nought_is : (z : ℕ) → memory_reg (known n (written f OUTCOME z) zs) NOUGHT ≡ 0
     nought_is z = known_at n (written f OUTCOME z) zs NOUGHT (omega arith)
         ∙ written_off f OUTCOME z NOUGHT (λ e. omega arith) ∙ nothing_there
 

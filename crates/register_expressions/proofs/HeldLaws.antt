@@ -10,7 +10,7 @@ use Rattle.rpp_tree.specs.Tree.{Expression, Number, Null, Variable, Element, Bin
 use Rattle.code_scope.specs.pisa_isa.Machine.{Memory}
 use Rattle.code_scope.specs.code_conventions.declared.registers.TheConstants.{CONTENT, FRAME, NOUGHT, OBJECT, OUTCOME}
 use Rattle.code_scope.specs.paired_code.declared.part.Symbol.{Symbol}
-use Rattle.code_scope.specs.paired_code.Machine.{Image, reg, with_reg}
+use Rattle.code_scope.specs.paired_code.Machine.{Image, memory_reg, memory_with_reg}
 use Rattle.code_scope.specs.paired_code.Pieces.{Done, Trapped, Runs}
 use Rattle.code_scope.specs.roopl_semantics.Operators.{operated, is_true, truth_word}
 use Rattle.code_scope.specs.refine_form.declared.spot.Spot.{Spot}
@@ -19,9 +19,9 @@ use Rattle.register_expressions.specs.Code.{given_cells, held_value_cells, base_
 use Rattle.register_expressions.specs.Code.{held_test_cells}
 use Rattle.register_expressions.specs.declared.held.Kind.{Kind}
 use Rattle.register_expressions.specs.declared.held.Kind.TheVariants as which
-use Rattle.register_expressions.specs.Held.{kind, own, beside, past, need, told_need, is_variable, is_zero, spot_in}
+use Rattle.register_expressions.specs.Held.{kind, own, beside, past, need, told_need, is_variable, is_zero_literal, expression_spot}
 use Rattle.register_expressions.specs.Held.{is_truth}
-use Rattle.register_expressions.specs.Number.{Bases, address_of, given, number, Sees}
+use Rattle.register_expressions.specs.Number.{Bases, spot_address, word_given, number, Sees}
 use Rattle.register_expressions.specs.Steps.{held_steps, given_steps, held_value_steps, held_truth_steps}
 use Rattle.register_expressions.specs.Steps.{held_test_steps}
 use Rattle.register_expressions.specs.Laws.{bases_of, Ready, Xored, truth_of}
@@ -96,13 +96,13 @@ module _ (n : ℕ) (b : Bases) (zs : List ℕ) (spot : List ℕ → Spot) (small
       (fine : Fine spot b zs e)
     where
       abbrev v : ℕ
-      v = given (number spot b zs e)
+      v = word_given (number spot b zs e)
 
       hc : CONTENT < n
       hc = omega arith
 
       -- the expression opened in the first registers
-      open_first : Opens n b only (held_cells spot e 0) (held_steps e) 0 (need e) (given (number spot b zs e))
+      open_first : Opens n b only (held_cells spot e 0) (held_steps e) 0 (need e) (word_given (number spot b zs e))
       open_first = more_open n b only (omega arith) refl
           (held_opens n b only spot still_small hc low still_inside zs all e 0 (omega arith) (omega arith) fine sees
           (alike e))
@@ -116,18 +116,18 @@ module _ (n : ℕ) (b : Bases) (zs : List ℕ) (spot : List ℕ → Spot) (small
 
       plain_into : (f : ℕ → ℕ) → Free b 0 top f → Goes (around (held_cells spot e 0) (xor into (part 0) ∷ []))
           (held_steps e + (1 + held_steps e)) (known n f zs)
-          (known n (written f into (bit_xor (f into) (given (number spot b zs e)))) zs)
+          (known n (written f into (bit_xor (f into) (word_given (number spot b zs e)))) zs)
       plain_into f r = around_into wide v (λ f r.
           goes_to refl refl (ap (λ u. known n (written (wide.puts f) into (bit_xor (f into) u)) zs) (open_first.has f))
           (xor_goes n (wide.puts f) zs into hi (part 0) (omega arith) part_not (f into))) f r
 
       -- its truth value
       told : ℕ
-      told = truth_word (is_true (given (number spot b zs e)))
+      told = truth_word (is_true (word_given (number spot b zs e)))
 
       truth_mid : (f : ℕ → ℕ) → Free b 0 top f → Goes (truth_cells into (part 0)) 2
           (known n (written (wide.puts f) into (f into)) zs)
-          (known n (written (wide.puts f) into (bit_xor (f into) (truth_word (is_true (given (number spot b zs e))))))
+          (known n (written (wide.puts f) into (bit_xor (f into) (truth_word (is_true (word_given (number spot b zs e))))))
           zs)
       truth_mid f r =
           let vw : v < 2 ^ 32 = value_word spot b zs low all e sees fine in
@@ -138,8 +138,8 @@ module _ (n : ℕ) (b : Bases) (zs : List ℕ) (spot : List ℕ → Spot) (small
       truth_into : (f : ℕ → ℕ) → Free b 0 top f
           → Goes (around (held_cells spot e 0) (truth_cells into (part 0))) (held_steps e + (2 + held_steps e))
           (known n f zs)
-          (known n (written f into (bit_xor (f into) (truth_word (is_true (given (number spot b zs e)))))) zs)
-      truth_into f r = around_into wide (truth_word (is_true (given (number spot b zs e)))) truth_mid f r
+          (known n (written f into (bit_xor (f into) (truth_word (is_true (word_given (number spot b zs e)))))) zs)
+      truth_into f r = around_into wide (truth_word (is_true (word_given (number spot b zs e)))) truth_mid f r
 
   -- what an operator gives goes there straight
   given_into : (at : ℕ) (o : BinOp) (left right : Expression) → need (Binary at o left right) ≤ top → top ≤ 9
@@ -147,7 +147,7 @@ module _ (n : ℕ) (b : Bases) (zs : List ℕ) (spot : List ℕ → Spot) (small
       → (f : ℕ → ℕ) → Free b 0 top f
       → Goes (given_cells spot c o left right (Binary at o left right) into)
       (given_steps c o left right (held_steps (Binary at o left right))) (known n f zs)
-      (known n (written f into (bit_xor (f into) (given (number spot b zs (Binary at o left right))))) zs)
+      (known n (written f into (bit_xor (f into) (word_given (number spot b zs (Binary at o left right))))) zs)
   given_into at o left right fits few s fine which.Changes q f r =
       plain_into (Binary at o left right) fits few s fine f r
   given_into at o left right fits few s fine which.Neither q f r =
@@ -158,7 +158,7 @@ module _ (n : ℕ) (b : Bases) (zs : List ℕ) (spot : List ℕ → Spot) (small
       go : 1 + (need left + need right) ≤ top → Goes (given_cells spot which.Gives o left right (Binary at o left right)
           into)
           (given_steps which.Gives o left right (held_steps (Binary at o left right))) (known n f zs)
-          (known n (written f into (bit_xor (f into) (given (number spot b zs (Binary at o left right))))) zs)
+          (known n (written f into (bit_xor (f into) (word_given (number spot b zs (Binary at o left right))))) zs)
       go fits =
           let hc : CONTENT < n = omega arith in
           let a = need_least left in
@@ -174,13 +174,13 @@ module _ (n : ℕ) (b : Bases) (zs : List ℕ) (spot : List ℕ → Spot) (small
           (value_word spot b zs low all left s.0 (fine_left spot b zs o (number spot b zs left) (number spot b zs right)
           fine))
           (value_word spot b zs low all right s.1 (fine_right spot b zs o (number spot b zs left)
-          (number spot b zs right) fine)) (is_zero right)
-          (is_variable left) (is_variable right) (spot_in spot left) (spot_in spot right) (zero_is spot b zs right)
+          (number spot b zs right) fine)) (is_zero_literal right)
+          (is_variable left) (is_variable right) (expression_spot spot left) (expression_spot spot right) (zero_is spot b zs right)
           (shows n b only spot still_small hc low still_inside zs all left s.0 (alike left))
           (shows n b only spot still_small hc low still_inside zs all right s.1 (alike right)) in
           goes_to refl refl (ap (λ v. known n (written f into (bit_xor (f into) v)) zs)
           (given_is spot b zs at o left right fine))
-          (around_into both.change (operated o (given (number spot b zs left)) (given (number spot b zs right)))
+          (around_into both.change (operated o (word_given (number spot b zs left)) (word_given (number spot b zs right)))
           (λ f r. both.give o q f r into (f into) hi away zs refl) f r)
   given_into at o left right fits few s fine which.Joins q f r = go (subst (λ c. own c (is_truth left) (is_truth right)
       + (need left + need right) ≤ top) q fits)
@@ -188,7 +188,7 @@ module _ (n : ℕ) (b : Bases) (zs : List ℕ) (spot : List ℕ → Spot) (small
       go : 1 + (beside (is_truth left) + beside (is_truth right)) + (need left + need right) ≤ top
           → Goes (given_cells spot which.Joins o left right (Binary at o left right) into)
           (given_steps which.Joins o left right (held_steps (Binary at o left right))) (known n f zs)
-          (known n (written f into (bit_xor (f into) (given (number spot b zs (Binary at o left right))))) zs)
+          (known n (written f into (bit_xor (f into) (word_given (number spot b zs (Binary at o left right))))) zs)
       go fits =
           let hc : CONTENT < n = omega arith in
           let a = need_least left in
@@ -212,15 +212,15 @@ module _ (n : ℕ) (b : Bases) (zs : List ℕ) (spot : List ℕ → Spot) (small
           two in
           goes_to refl refl (ap (λ v. known n (written f into (bit_xor (f into) v)) zs)
           (given_is spot b zs at o left right fine))
-          (around_into both.change (operated o (given (number spot b zs left)) (given (number spot b zs right)))
+          (around_into both.change (operated o (word_given (number spot b zs left)) (word_given (number spot b zs right)))
           (λ f r. both.give o q f r into (f into) hi away zs refl) f r)
 
   -- a register into which something is xored while the word of a variable is out
-  leaf_into : (sp : Spot) (v t : ℕ) → address_of b sp < length zs → (mid : List Symbol) → (f : ℕ → ℕ) → Free b 0 top f
+  leaf_into : (sp : Spot) (v t : ℕ) → spot_address b sp < length zs → (mid : List Symbol) → (f : ℕ → ℕ) → Free b 0 top f
       → Goes mid t
-      (known n (written (taken n f (base_of sp) (address_of b sp) zs) into (f into)) (slice_set zs (address_of b sp) 0))
-      (known n (written (taken n f (base_of sp) (address_of b sp) zs) into (bit_xor (f into) v))
-      (slice_set zs (address_of b sp) 0))
+      (known n (written (taken n f (base_of sp) (spot_address b sp) zs) into (f into)) (slice_set zs (spot_address b sp) 0))
+      (known n (written (taken n f (base_of sp) (spot_address b sp) zs) into (bit_xor (f into) v))
+      (slice_set zs (spot_address b sp) 0))
       → Goes (around (reach_cells sp) mid) (2 + (t + 2)) (known n f zs)
       (known n (written f into (bit_xor (f into) v)) zs)
   leaf_into sp v t below mid f r go =
@@ -231,7 +231,7 @@ module _ (n : ℕ) (b : Bases) (zs : List ℕ) (spot : List ℕ → Spot) (small
   pub value_into : (e : Expression) → need e ≤ top → top ≤ 9 → Sees spot b low zs e → Fine spot b zs e → (f : ℕ → ℕ)
       → Free b 0 top f
       → Goes (held_value_cells spot e into) (held_value_steps e) (known n f zs)
-      (known n (written f into (bit_xor (f into) (given (number spot b zs e)))) zs)
+      (known n (written f into (bit_xor (f into) (word_given (number spot b zs e)))) zs)
   value_into (Number at word) fits few s g f r =
       goes_to refl (known_same n _ _ zs (λ q l. written_same f into (f into) q refl)) refl
       (xori_goes n f zs into hi word (f into) s)
@@ -239,33 +239,33 @@ module _ (n : ℕ) (b : Bases) (zs : List ℕ) (spot : List ℕ → Spot) (small
   value_into (Variable name) fits few s g f r =
       let sp : Spot = spot name.text in
       let hc : CONTENT < n = omega arith in
-      let f' : ℕ → ℕ = taken n f (base_of sp) (address_of b sp) zs in
-      leaf_into sp (slice_index zs (address_of b sp)) 1 (omega arith) (xor into CONTENT ∷ []) f r
-      (goes_to refl refl (ap (λ u. known n (written f' into (bit_xor (f into) u)) (slice_set zs (address_of b sp) 0))
+      let f' : ℕ → ℕ = taken n f (base_of sp) (spot_address b sp) zs in
+      leaf_into sp (slice_index zs (spot_address b sp)) 1 (omega arith) (xor into CONTENT ∷ []) f r
+      (goes_to refl refl (ap (λ u. known n (written f' into (bit_xor (f into) u)) (slice_set zs (spot_address b sp) 0))
       (taken_word n b only spot still_small hc zs f sp))
-      (xor_goes n f' (slice_set zs (address_of b sp) 0) into hi CONTENT hc away.content_not (f into)))
+      (xor_goes n f' (slice_set zs (spot_address b sp) 0) into hi CONTENT hc away.content_not (f into)))
   value_into (Element name index) fits few s g f r = plain_into (Element name index) fits few s g f r
   value_into (Binary at o left right) fits few s g f r = given_into at o left right fits few s g (kind o) refl f r
 
   pub test_into : (e : Expression) → need e ≤ top → top ≤ 9 → Sees spot b low zs e → Fine spot b zs e → (f : ℕ → ℕ)
       → Free b 0 top f
       → Goes (held_test_cells spot e into) (held_test_steps e) (known n f zs)
-      (known n (written f into (bit_xor (f into) (truth_word (is_true (given (number spot b zs e)))))) zs)
+      (known n (written f into (bit_xor (f into) (truth_word (is_true (word_given (number spot b zs e)))))) zs)
   test_into e fits few s g f r = by (is_truth e) refl
     where
-      told : (t : Bool) → Shows n b only spot still_small (omega arith) t (spot_in spot e) (given (number spot b zs e))
-          → Goes (if t then around (reach_cells (spot_in spot e)) (truth_cells into CONTENT)
+      told : (t : Bool) → Shows n b only spot still_small (omega arith) t (expression_spot spot e) (word_given (number spot b zs e))
+          → Goes (if t then around (reach_cells (expression_spot spot e)) (truth_cells into CONTENT)
           else around (held_cells spot e 0) (truth_cells into (part 0)))
           (if t then 6 else (held_steps e + (2 + held_steps e))) (known n f zs)
-          (known n (written f into (bit_xor (f into) (truth_word (is_true (given (number spot b zs e)))))) zs)
+          (known n (written f into (bit_xor (f into) (truth_word (is_true (word_given (number spot b zs e)))))) zs)
       told true shown =
-          let sp : Spot = spot_in spot e in
+          let sp : Spot = expression_spot spot e in
           let hc : CONTENT < n = omega arith in
           let i = shown zs refl in
-          let f' : ℕ → ℕ = taken n f (base_of sp) (address_of b sp) zs in
-          leaf_into sp (truth_word (is_true (given (number spot b zs e)))) 2 i.0 (truth_cells into CONTENT) f r
-          (told_goes n b only spot still_small hc (slice_set zs (address_of b sp) 0) f' into CONTENT (f into)
-          (given (number spot b zs e)) hi hc (omega arith) away.nought_not away.content_not
+          let f' : ℕ → ℕ = taken n f (base_of sp) (spot_address b sp) zs in
+          leaf_into sp (truth_word (is_true (word_given (number spot b zs e)))) 2 i.0 (truth_cells into CONTENT) f r
+          (told_goes n b only spot still_small hc (slice_set zs (spot_address b sp) 0) f' into CONTENT (f into)
+          (word_given (number spot b zs e)) hi hc (omega arith) away.nought_not away.content_not
           (taken_other n b only spot still_small hc zs f sp NOUGHT (λ e. omega arith) (λ e. omega arith)
           (λ e. omega arith) ∙ r.nought_is)
           (taken_word n b only spot still_small hc zs f sp ∙ i.1) (value_word spot b zs low all e s g))
@@ -273,7 +273,7 @@ module _ (n : ℕ) (b : Bases) (zs : List ℕ) (spot : List ℕ → Spot) (small
 
       by : (t : Bool) → is_truth e ≡ t → Goes (if t then held_value_cells spot e into else held_truth_cells spot e into)
           (if t then held_value_steps e else held_truth_steps e) (known n f zs)
-          (known n (written f into (bit_xor (f into) (truth_word (is_true (given (number spot b zs e)))))) zs)
+          (known n (written f into (bit_xor (f into) (truth_word (is_true (word_given (number spot b zs e)))))) zs)
       by true q = goes_to refl refl (ap (λ v. known n (written f into (bit_xor (f into) v)) zs)
           (own_truth spot b zs e g q)) (value_into e fits few s g f r)
       by false q = told (is_variable e)
@@ -311,12 +311,12 @@ module _ (n : ℕ) (b : Bases) (zs : List ℕ) (spot : List ℕ → Spot) (small
           → TrapsBoth (given_cells spot which.Gives o left right (Binary at o left right) into)
           (given_steps which.Gives o left right (held_steps (Binary at o left right))) c (known n f zs)
       go fits = both_more (omega arith) (traps_around
-          (core (is_zero right) (is_variable left) (is_variable right) (spot_in spot left) (spot_in spot right)
+          (core (is_zero_literal right) (is_variable left) (is_variable right) (expression_spot spot left) (expression_spot spot right)
           (part 0) (part (need left)) (λ a s. give_cells o into a s))
           (before_traps n b only spot still_small (omega arith) low still_inside zs all left right 0 (need left) c
           (omega arith)
           s.0 (alike left) refl (λ j q el g w. faults left s.0 j c q (omega arith) el g w)
-          (λ j q er g w. faults right s.1 j c q (omega arith) er g w) f (is_zero right) (is_variable left)
+          (λ j q er g w. faults right s.1 j c q (omega arith) er g w) f (is_zero_literal right) (is_variable left)
           (is_variable right) (leaf_none spot b zs left c) (zero_none spot b zs right c) (leaf_none spot b zs right c)
           (omega arith) (omega arith) (less_free n b only (omega arith) (omega arith) f r)
           (one_err o (number spot b zs left) (number spot b zs right) c e)))
@@ -350,7 +350,7 @@ module _ (n : ℕ) (b : Bases) (zs : List ℕ) (spot : List ℕ → Spot) (small
   test_traps e fits few s c q f r = by (is_truth e)
     where
       told : (t : Bool) → is_variable e ≡ t → TrapsBoth (if t
-          then around (reach_cells (spot_in spot e)) (truth_cells into CONTENT)
+          then around (reach_cells (expression_spot spot e)) (truth_cells into CONTENT)
           else around (held_cells spot e 0) (truth_cells into (part 0)))
           (if t then 6 else (held_steps e + (2 + held_steps e))) c (known n f zs)
       told true t = absurd (leaf_none spot b zs e c q t)
@@ -394,7 +394,7 @@ target_small into (inl l) = omega arith
 target_small into (inr (inl (lo, up))) = omega arith
 target_small into (inr (inr (lo, up))) = omega arith
 
-free_of : (free n : ℕ) (m : Memory) → Ready free n m → Free (bases_of m) 0 9 (reg m)
+free_of : (free n : ℕ) (m : Memory) → Ready free n m → Free (bases_of m) 0 9 (memory_reg m)
 free_of free n m h = record {
   object_is = refl;
   frame_is = refl;
@@ -405,34 +405,34 @@ free_of free n m h = record {
 }
 
 module _ (spot : List ℕ → Spot) (free into : ℕ) (e : Expression) (m : Memory) (target : Target into)
-    (ready : Ready free (words e) m) (sees : Sees spot (bases_of m) (reg m 4 + free) m.cells e) (few : need e < 10)
+    (ready : Ready free (words e) m) (sees : Sees spot (bases_of m) (memory_reg m 4 + free) m.cells e) (few : need e < 10)
     (im : Image) (d : Bool) where
   abbrev low : ℕ
-  low = reg m 4 + free
+  low = memory_reg m 4 + free
 
-  inside : reg m 4 + free ≤ length m.cells
+  inside : memory_reg m 4 + free ≤ length m.cells
   inside = let h = ready.inside in omega arith
 
-  same : known 32 (reg m) m.cells ≡ m
+  same : known 32 (memory_reg m) m.cells ≡ m
   same = ap (λ r. record m { regs = r }) (sym (tabulated_is 32 m.regs ready.count))
 
   -- a fragment that xors a number into the register goes there in either direction
   both_ways : (w : List Symbol) (k v : ℕ) → ((f : ℕ → ℕ) → Free (bases_of m) 0 9 f
       → Goes w k (known 32 f m.cells) (known 32 (written f into (bit_xor (f into) v)) m.cells))
-      → Runs im w d m (Done (with_reg m into (bit_xor (reg m into) v)) k)
+      → Runs im w d m (Done (memory_with_reg m into (bit_xor (memory_reg m into) v)) k)
   both_ways w k v go =
-      let x : ℕ = bit_xor (reg m into) v in
-      let f : ℕ → ℕ = reg m in
+      let x : ℕ = bit_xor (memory_reg m into) v in
+      let f : ℕ → ℕ = memory_reg m in
       let g : ℕ → ℕ = written f into x in
       let r = free_of free (words e) m ready in
       let away = target_apart into target in
-      let at_end : known 32 g m.cells ≡ with_reg m into x =
-      sym (known_set 32 f m.cells into x (target_small into target)) ∙ ap (λ z. with_reg z into x) same in
+      let at_end : known 32 g m.cells ≡ memory_with_reg m into x =
+      sym (known_set 32 f m.cells into x (target_small into target)) ∙ ap (λ z. memory_with_reg z into x) same in
       let again : (q : ℕ) → written g into (bit_xor (g into) v) q ≡ f q =
       λ q. written_again f into x (bit_xor (g into) v) q
       ∙ written_same f into (bit_xor (g into) v) q (sym (ap (λ z. bit_xor z v) (written_at f into x)
       ∙ xor-twice (f into) v)) in
-      let back = go g (free_written 32 (bases_of m) m.cells spot ready.small (omega arith) (reg m 4 + free) inside
+      let back = go g (free_written 32 (bases_of m) m.cells spot ready.small (omega arith) (memory_reg m 4 + free) inside
       ready.words into (target_small into target) 9 away f x r) in
       runs_along (goes_to refl same at_end (go f r))
       (goes_to refl at_end (known_same 32 _ _ m.cells (λ q l. again q) ∙ same) back) im d
@@ -441,7 +441,7 @@ module _ (spot : List ℕ → Spot) (free into : ℕ) (e : Expression) (m : Memo
   trapped : (w : List Symbol) (k c : ℕ) → ((f : ℕ → ℕ) → Free (bases_of m) 0 9 f
       → TrapsBoth w k c (known 32 f m.cells)) → (j : ℕ) × (j ≤ k) × Runs im w d m (Trapped c j)
   trapped w k c go =
-      let a = (go (reg m) (free_of free (words e) m ready)).runs im d in
+      let a = (go (memory_reg m) (free_of free (words e) m ready)).runs im d in
       (a.0, a.1, subst (λ z. Runs im w d z (Trapped c a.0)) same a.2)
 
   pub held_value : Xored into (held_value_steps e) m (number spot (bases_of m) m.cells e) im
@@ -453,11 +453,11 @@ module _ (spot : List ℕ → Spot) (free into : ℕ) (e : Expression) (m : Memo
       by (Ok v) q =
           let fine = ok_fine spot (bases_of m) m.cells (number spot (bases_of m) m.cells e) v q in
           subst (λ z. Xored into (held_value_steps e) m z im (held_value_cells spot e into) d) (sym fine ∙ q)
-          (both_ways (held_value_cells spot e into) (held_value_steps e) (given (number spot (bases_of m) m.cells e))
-          (value_into 32 (bases_of m) m.cells spot ready.small (omega arith) (reg m 4 + free) inside ready.words into
+          (both_ways (held_value_cells spot e into) (held_value_steps e) (word_given (number spot (bases_of m) m.cells e))
+          (value_into 32 (bases_of m) m.cells spot ready.small (omega arith) (memory_reg m 4 + free) inside ready.words into
           (target_small into target) 9 (target_apart into target) e (omega arith) (omega arith) sees fine))
       by (Err c) q = trapped (held_value_cells spot e into) (held_value_steps e) c
-          (value_traps 32 (bases_of m) m.cells spot ready.small (omega arith) (reg m 4 + free) inside ready.words into
+          (value_traps 32 (bases_of m) m.cells spot ready.small (omega arith) (memory_reg m 4 + free) inside ready.words into
           (target_small into target) 9 (target_apart into target) e (omega arith) (omega arith) sees c q)
 
   pub held_test : Xored into (held_test_steps e) m (truth_of (number spot (bases_of m) m.cells e)) im
@@ -470,9 +470,9 @@ module _ (spot : List ℕ → Spot) (free into : ℕ) (e : Expression) (m : Memo
           let fine = ok_fine spot (bases_of m) m.cells (number spot (bases_of m) m.cells e) v q in
           subst (λ z. Xored into (held_test_steps e) m (truth_of z) im (held_test_cells spot e into) d) (sym fine ∙ q)
           (both_ways (held_test_cells spot e into) (held_test_steps e)
-          (truth_word (is_true (given (number spot (bases_of m) m.cells e))))
-          (test_into 32 (bases_of m) m.cells spot ready.small (omega arith) (reg m 4 + free) inside ready.words into
+          (truth_word (is_true (word_given (number spot (bases_of m) m.cells e))))
+          (test_into 32 (bases_of m) m.cells spot ready.small (omega arith) (memory_reg m 4 + free) inside ready.words into
           (target_small into target) 9 (target_apart into target) e (omega arith) (omega arith) sees fine))
       by (Err c) q = trapped (held_test_cells spot e into) (held_test_steps e) c
-          (test_traps 32 (bases_of m) m.cells spot ready.small (omega arith) (reg m 4 + free) inside ready.words into
+          (test_traps 32 (bases_of m) m.cells spot ready.small (omega arith) (memory_reg m 4 + free) inside ready.words into
           (target_small into target) 9 (target_apart into target) e (omega arith) (omega arith) sees c q)

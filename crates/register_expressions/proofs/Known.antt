@@ -9,12 +9,12 @@ use Rattle.code_scope.specs.rpp_words.Words.{is_less, sum_of, difference_of, neg
 use Rattle.code_scope.specs.pisa_isa.Table.{word_of}
 use Rattle.code_scope.specs.pisa_isa.Machine.{Memory}
 use Rattle.code_scope.specs.code_conventions.declared.registers.TheConstants.{CONTENT, FRAME, OBJECT}
-use Rattle.code_scope.specs.paired_code.Machine.{reg, with_reg}
+use Rattle.code_scope.specs.paired_code.Machine.{memory_reg, memory_with_reg}
 use Rattle.code_scope.specs.paired_code.Pieces.{Done, Bad}
 use Rattle.code_scope.specs.refine_form.declared.spot.Spot.{Spot}
 use Rattle.code_scope.specs.refine_form.declared.spot.Spot.TheVariants.{Field, Frame}
 use Rattle.register_expressions.specs.Code.{add, sub, xor, addi, xori, andx, orx, sltx, exch, base_of, reach_cells}
-use Rattle.register_expressions.specs.Number.{Bases, address_of}
+use Rattle.register_expressions.specs.Number.{Bases, spot_address}
 use Rattle.register_expressions.proofs.Goes.{Goes, goes_to, goes_cons, goes_xor, goes_add, goes_sub, goes_addi}
 use Rattle.register_expressions.proofs.Goes.{goes_addi_word, goes_exch}
 use Rattle.register_expressions.proofs.Results.{written}
@@ -103,10 +103,10 @@ module _ (n : ℕ) where
   pub known_same : (f g : ℕ → ℕ) (zs : List ℕ) → ((r : ℕ) → r < n → f r ≡ g r) → known f zs ≡ known g zs
   known_same f g zs h = ap (λ r. record { regs = r; cells = zs }) (tabulated_same n f g h)
 
-  pub known_at : (f : ℕ → ℕ) (zs : List ℕ) (r : ℕ) → r < n → reg (known f zs) r ≡ f r
+  pub known_at : (f : ℕ → ℕ) (zs : List ℕ) (r : ℕ) → r < n → memory_reg (known f zs) r ≡ f r
   known_at f zs r h = tabulated_at n f r h
 
-  pub known_set : (f : ℕ → ℕ) (zs : List ℕ) (r v : ℕ) → r < n → with_reg (known f zs) r v ≡ known (written f r v) zs
+  pub known_set : (f : ℕ → ℕ) (zs : List ℕ) (r v : ℕ) → r < n → memory_with_reg (known f zs) r v ≡ known (written f r v) zs
   known_set f zs r v h = ap (λ z. record { regs = z; cells = zs }) (tabulated_set n f r v h)
 
   -- ---- one register changes
@@ -115,30 +115,30 @@ module _ (n : ℕ) where
     abbrev put : ℕ → Memory
     put x = known (written f d x) zs
 
-    mine : (x : ℕ) → reg (put x) d ≡ x
+    mine : (x : ℕ) → memory_reg (put x) d ≡ x
     mine x = known_at (written f d x) zs d hd ∙ written_at f d x
 
-    other : (s x : ℕ) → s < n → s ≢ d → reg (put x) s ≡ f s
+    other : (s x : ℕ) → s < n → s ≢ d → memory_reg (put x) s ≡ f s
     other s x h k = known_at (written f d x) zs s h ∙ written_off f d x s k
 
-    set : (x v : ℕ) → with_reg (put x) d v ≡ put v
+    set : (x v : ℕ) → memory_with_reg (put x) d v ≡ put v
     set x v = known_set (written f d x) zs d v hd ∙ known_same _ _ zs (λ r h. written_again f d x v r)
 
-    done : (x v v' : ℕ) → v ≡ v' → Done (with_reg (put x) d v) 1 ≡ Done (put v') 1
-    done x v v' e = ap (λ u. Done (with_reg (put x) d u) 1) e ∙ ap (λ u. Done u 1) (set x v')
+    done : (x v v' : ℕ) → v ≡ v' → Done (memory_with_reg (put x) d v) 1 ≡ Done (put v') 1
+    done x v v' e = ap (λ u. Done (memory_with_reg (put x) d u) 1) e ∙ ap (λ u. Done u 1) (set x v')
 
     pub xori_goes : (w x : ℕ) → w < 2 ^ 32 → Goes (xori d w ∷ []) 1 (known (written f d x) zs)
         (known (written f d (bit_xor x w)) zs)
     xori_goes w x h = goes_xor _ put x w refl h (λ z. step z) (λ z. step z)
       where
-        step : (z : ℕ) → Done (with_reg (put z) d (bit_xor (reg (put z) d) w)) 1 ≡ Done (put (bit_xor z w)) 1
+        step : (z : ℕ) → Done (memory_with_reg (put z) d (bit_xor (memory_reg (put z) d) w)) 1 ≡ Done (put (bit_xor z w)) 1
         step z = done z _ _ (ap (λ u. bit_xor u w) (mine z))
 
     pub addi_goes : (w x : ℕ) → x < 2 ^ 32 → w < 2 ^ 32 → Goes (addi d w ∷ []) 1 (known (written f d x) zs)
         (known (written f d (sum_of x w)) zs)
     addi_goes w x h k = goes_addi_word _ put x w h k refl k (λ z. step z w) (λ z. step z (negated w))
       where
-        step : (z u : ℕ) → Done (with_reg (put z) d (sum_of (reg (put z) d) u)) 1 ≡ Done (put (sum_of z u)) 1
+        step : (z u : ℕ) → Done (memory_with_reg (put z) d (sum_of (memory_reg (put z) d) u)) 1 ≡ Done (put (sum_of z u)) 1
         step z u = done z _ _ (ap (λ y. sum_of y u) (mine z))
 
     module _ (s : ℕ) (hs : s < n) (ns : s ≢ d) where
@@ -146,17 +146,17 @@ module _ (n : ℕ) where
           (known (written f d (bit_xor x (f s))) zs)
       xor_goes x = goes_xor _ put x (f s) refl (omega arith) (λ z. step z) (λ z. step z)
         where
-          step : (z : ℕ) → Done (with_reg (put z) d (bit_xor (reg (put z) d) (reg (put z) s))) 1
+          step : (z : ℕ) → Done (memory_with_reg (put z) d (bit_xor (memory_reg (put z) d) (memory_reg (put z) s))) 1
               ≡ Done (put (bit_xor z (f s))) 1
-          step z = done z _ _ (ap (λ u. bit_xor u (reg (put z) s)) (mine z) ∙ ap (bit_xor z) (other s z hs ns))
+          step z = done z _ _ (ap (λ u. bit_xor u (memory_reg (put z) s)) (mine z) ∙ ap (bit_xor z) (other s z hs ns))
 
-      plus : (z : ℕ) → Done (with_reg (put z) d (sum_of (reg (put z) d) (reg (put z) s))) 1
+      plus : (z : ℕ) → Done (memory_with_reg (put z) d (sum_of (memory_reg (put z) d) (memory_reg (put z) s))) 1
           ≡ Done (put (sum_of z (f s))) 1
-      plus z = done z _ _ (ap (λ u. sum_of u (reg (put z) s)) (mine z) ∙ ap (sum_of z) (other s z hs ns))
+      plus z = done z _ _ (ap (λ u. sum_of u (memory_reg (put z) s)) (mine z) ∙ ap (sum_of z) (other s z hs ns))
 
-      minus : (z : ℕ) → Done (with_reg (put z) d (difference_of (reg (put z) d) (reg (put z) s))) 1
+      minus : (z : ℕ) → Done (memory_with_reg (put z) d (difference_of (memory_reg (put z) d) (memory_reg (put z) s))) 1
           ≡ Done (put (difference_of z (f s))) 1
-      minus z = done z _ _ (ap (λ u. difference_of u (reg (put z) s)) (mine z)
+      minus z = done z _ _ (ap (λ u. difference_of u (memory_reg (put z) s)) (mine z)
           ∙ ap (difference_of z) (other s z hs ns))
 
       pub add_goes : (x : ℕ) → x < 2 ^ 32 → f s < 2 ^ 32 → Goes (add d s ∷ []) 1 (known (written f d x) zs)
@@ -172,31 +172,31 @@ module _ (n : ℕ) where
           (known (written f d (bit_xor x (word_of (is_less (f a) (f s))))) zs)
       sltx_goes x = goes_xor _ put x (word_of (is_less (f a) (f s))) refl (omega arith) (λ z. step z) (λ z. step z)
         where
-          step : (z : ℕ) → Done (with_reg (put z) d (bit_xor (reg (put z) d)
-              (word_of (is_less (reg (put z) a) (reg (put z) s))))) 1
+          step : (z : ℕ) → Done (memory_with_reg (put z) d (bit_xor (memory_reg (put z) d)
+              (word_of (is_less (memory_reg (put z) a) (memory_reg (put z) s))))) 1
               ≡ Done (put (bit_xor z (word_of (is_less (f a) (f s))))) 1
-          step z = done z _ _ (ap (λ u. bit_xor u (word_of (is_less (reg (put z) a) (reg (put z) s)))) (mine z)
-              ∙ ap (λ u. bit_xor z (word_of (is_less u (reg (put z) s)))) (other a z ha na)
+          step z = done z _ _ (ap (λ u. bit_xor u (word_of (is_less (memory_reg (put z) a) (memory_reg (put z) s)))) (mine z)
+              ∙ ap (λ u. bit_xor z (word_of (is_less u (memory_reg (put z) s)))) (other a z ha na)
               ∙ ap (λ u. bit_xor z (word_of (is_less (f a) u))) (other s z hs ns))
 
       pub andx_goes : (x : ℕ) → Goes (andx d a s ∷ []) 1 (known (written f d x) zs)
           (known (written f d (bit_xor x (bit_and (f a) (f s)))) zs)
       andx_goes x = goes_xor _ put x (bit_and (f a) (f s)) refl (omega arith) (λ z. step z) (λ z. step z)
         where
-          step : (z : ℕ) → Done (with_reg (put z) d (bit_xor (reg (put z) d)
-              (bit_and (reg (put z) a) (reg (put z) s)))) 1 ≡ Done (put (bit_xor z (bit_and (f a) (f s)))) 1
-          step z = done z _ _ (ap (λ u. bit_xor u (bit_and (reg (put z) a) (reg (put z) s))) (mine z)
-              ∙ ap (λ u. bit_xor z (bit_and u (reg (put z) s))) (other a z ha na)
+          step : (z : ℕ) → Done (memory_with_reg (put z) d (bit_xor (memory_reg (put z) d)
+              (bit_and (memory_reg (put z) a) (memory_reg (put z) s)))) 1 ≡ Done (put (bit_xor z (bit_and (f a) (f s)))) 1
+          step z = done z _ _ (ap (λ u. bit_xor u (bit_and (memory_reg (put z) a) (memory_reg (put z) s))) (mine z)
+              ∙ ap (λ u. bit_xor z (bit_and u (memory_reg (put z) s))) (other a z ha na)
               ∙ ap (λ u. bit_xor z (bit_and (f a) u)) (other s z hs ns))
 
       pub orx_goes : (x : ℕ) → Goes (orx d a s ∷ []) 1 (known (written f d x) zs)
           (known (written f d (bit_xor x (bit_or (f a) (f s)))) zs)
       orx_goes x = goes_xor _ put x (bit_or (f a) (f s)) refl (omega arith) (λ z. step z) (λ z. step z)
         where
-          step : (z : ℕ) → Done (with_reg (put z) d (bit_xor (reg (put z) d)
-              (bit_or (reg (put z) a) (reg (put z) s)))) 1 ≡ Done (put (bit_xor z (bit_or (f a) (f s)))) 1
-          step z = done z _ _ (ap (λ u. bit_xor u (bit_or (reg (put z) a) (reg (put z) s))) (mine z)
-              ∙ ap (λ u. bit_xor z (bit_or u (reg (put z) s))) (other a z ha na)
+          step : (z : ℕ) → Done (memory_with_reg (put z) d (bit_xor (memory_reg (put z) d)
+              (bit_or (memory_reg (put z) a) (memory_reg (put z) s)))) 1 ≡ Done (put (bit_xor z (bit_or (f a) (f s)))) 1
+          step z = done z _ _ (ap (λ u. bit_xor u (bit_or (memory_reg (put z) a) (memory_reg (put z) s))) (mine z)
+              ∙ ap (λ u. bit_xor z (bit_or u (memory_reg (put z) s))) (other a z ha na)
               ∙ ap (λ u. bit_xor z (bit_or (f a) u)) (other s z hs ns))
 
   -- ---- a word taken out
@@ -212,7 +212,7 @@ module _ (n : ℕ) where
       (goes_addi _ (λ z. known (written f r z) zs) x i (omega arith) refl (omega arith) (λ z. step z i)
       (λ z. step z (negated i)))
     where
-      step : (z u : ℕ) → Done (with_reg (known (written f r z) zs) r (sum_of (reg (known (written f r z) zs) r) u)) 1
+      step : (z u : ℕ) → Done (memory_with_reg (known (written f r z) zs) r (sum_of (memory_reg (known (written f r z) zs) r) u)) 1
           ≡ Done (known (written f r (sum_of z u)) zs) 1
       step z u = done f zs r hr z _ _ (ap (λ w. sum_of w u) (mine f zs r hr z))
 
@@ -232,29 +232,29 @@ module _ (n : ℕ) where
       goes_to refl (known_same _ _ zs (λ j l. written_same g CONTENT 0 j z)) refl
       (goes_exch _ (out g) a 0 zs h refl (omega arith) (λ z ws. step z ws) (λ z ws. step z ws))
     where
-      step : (z : ℕ) (ws : List ℕ) → (if nat_lt (reg (out g z ws) r) (length ws)
-          then Done (exchanged g z ws (reg (out g z ws) r) (reg (out g z ws) CONTENT)) 1
-          else Bad (reg (out g z ws) r) 0)
+      step : (z : ℕ) (ws : List ℕ) → (if nat_lt (memory_reg (out g z ws) r) (length ws)
+          then Done (exchanged g z ws (memory_reg (out g z ws) r) (memory_reg (out g z ws) CONTENT)) 1
+          else Bad (memory_reg (out g z ws) r) 0)
           ≡ (if nat_lt a (length ws) then Done (out g (slice_index ws a) (slice_set ws a z)) 1 else Bad a 0)
       step z ws =
-          let at_r : reg (out g z ws) r ≡ a = other g ws CONTENT hc r z hr ne ∙ e in
-          ap (λ u. if nat_lt u (length ws) then Done (exchanged g z ws u (reg (out g z ws) CONTENT)) 1 else Bad u 0)
+          let at_r : memory_reg (out g z ws) r ≡ a = other g ws CONTENT hc r z hr ne ∙ e in
+          ap (λ u. if nat_lt u (length ws) then Done (exchanged g z ws u (memory_reg (out g z ws) CONTENT)) 1 else Bad u 0)
           at_r
           ∙ ap (λ u. if nat_lt a (length ws) then Done (exchanged g z ws a u) 1 else Bad a 0) (mine g ws CONTENT hc z)
           ∙ ap (λ u. if nat_lt a (length ws) then Done (record u { cells = slice_set ws a z }) 1 else Bad a 0)
           (set g ws CONTENT hc z (slice_index ws a))
 
   pub reach_goes : (b : Bases) (f : ℕ → ℕ) (zs : List ℕ) (sp : Spot) → CONTENT < n → f OBJECT ≡ b.object
-      → f FRAME ≡ b.frame → f CONTENT ≡ 0 → address_of b sp < length zs → length zs ≤ 2 ^ 31
+      → f FRAME ≡ b.frame → f CONTENT ≡ 0 → spot_address b sp < length zs → length zs ≤ 2 ^ 31
       → Goes (reach_cells sp) 2 (known f zs)
-      (known (taken f (base_of sp) (address_of b sp) zs) (slice_set zs (address_of b sp) 0))
+      (known (taken f (base_of sp) (spot_address b sp) zs) (slice_set zs (spot_address b sp) 0))
   reach_goes b f zs (Field i) hc eo ef ec h k =
-      let a : ℕ = address_of b (Field i) in
+      let a : ℕ = spot_address b (Field i) in
       goes_cons (there f zs OBJECT b.object (HEADER_WORDS + i) a (omega arith) eo refl (omega arith))
       (word_out (written f OBJECT a) zs OBJECT a (omega arith) hc (λ e. omega arith) (written_at f OBJECT a)
       (written_off f OBJECT a CONTENT (λ e. omega arith) ∙ ec) h)
   reach_goes b f zs (Frame i) hc eo ef ec h k =
-      let a : ℕ = address_of b (Frame i) in
+      let a : ℕ = spot_address b (Frame i) in
       goes_cons (there f zs FRAME b.frame i a (omega arith) ef refl (omega arith))
       (word_out (written f FRAME a) zs FRAME a (omega arith) hc (λ e. omega arith) (written_at f FRAME a)
       (written_off f FRAME a CONTENT (λ e. omega arith) ∙ ec) h)

@@ -13,7 +13,7 @@ use Rattle.rpp_tree.specs.declared.tree.BinOp.TheVariants as op
 use Rattle.rpp_tree.specs.Tree.{Expression, Number, Null, Variable, Element, Binary}
 use Rattle.code_scope.specs.roopl_semantics.Operators.{operated}
 use Rattle.code_scope.specs.refine_form.declared.spot.Spot.{Spot}
-use Rattle.register_expressions.specs.Number.{Bases, element_address, element_at, word_in, combined, word_of, number}
+use Rattle.register_expressions.specs.Number.{Bases, element_address, element_at, word_in, combined_words, word_of, number}
 use Rattle.register_expressions.specs.Number.{IsArray, Sees}
 use Rattle.refine_form.proofs.meaning_sound_laws.Values.{truth_is_word}
 use Rattle.code_scope.specs.code_conventions.declared.faults.TheConstants.{INDEX, NIL}
@@ -130,8 +130,8 @@ module _ (spot : List ℕ → Spot) (b : Bases) (low : ℕ) where
       ∙ ap (λ z. word_in zs' (element_at zs' (word_of spot b zs name.text) z)) (number_same zs zs' ag index h.2)
       ∙ element_same zs zs' ag (word_of spot b zs name.text) (number spot b zs index) h.1
   number_same zs zs' ag (Binary at op left right) h =
-      ap (λ z. combined op z (number spot b zs' right)) (number_same zs zs' ag left h.0)
-      ∙ ap (combined op (number spot b zs left)) (number_same zs zs' ag right h.1)
+      ap (λ z. combined_words op z (number spot b zs' right)) (number_same zs zs' ag left h.0)
+      ∙ ap (combined_words op (number spot b zs left)) (number_same zs zs' ag right h.1)
 
   array_same : (zs zs' : List ℕ) → Agree low zs zs' → (a : ℕ) → IsArray spot b low zs a → IsArray spot b low zs' a
   array_same zs zs' ag a h = record {
@@ -152,7 +152,7 @@ module _ (spot : List ℕ → Spot) (b : Bases) (low : ℕ) where
   element_word zs w (Ok a) v e = let k : slice_index zs a ≡ v = cc in subst (λ z. z < 2 ^ 32) k (w a)
 
   combined_word : (zs : List ℕ) → (o : BinOp) (x y : Result ℕ ℕ) (v : ℕ) → ((u : ℕ) → x ≡ Ok u → u < 2 ^ 32)
-      → ((u : ℕ) → y ≡ Ok u → u < 2 ^ 32) → combined o x y ≡ Ok v → v < 2 ^ 32
+      → ((u : ℕ) → y ≡ Ok u → u < 2 ^ 32) → combined_words o x y ≡ Ok v → v < 2 ^ 32
   combined_word zs o (Err c) y v h k e = absurd (cc)
   combined_word zs o (Ok x) (Err c) v h k e = absurd (cc)
   combined_word zs o (Ok x) (Ok y) v h k e = let q : operated o x y ≡ v = cc in

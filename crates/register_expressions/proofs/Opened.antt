@@ -25,8 +25,8 @@ use Rattle.register_expressions.specs.declared.held.Kind.{Kind}
 use Rattle.register_expressions.specs.declared.held.Kind.TheVariants.{Gives, Joins, Neither}
 use Rattle.register_expressions.specs.declared.held.Kind.TheVariants as which
 use Rattle.register_expressions.specs.Held.{kind, own, beside, past, need, told_need, left_at, right_at, is_variable}
-use Rattle.register_expressions.specs.Held.{spot_in, is_literal, literal_in, is_zero, has_element, tells, is_truth}
-use Rattle.register_expressions.specs.Number.{Bases, address_of, given, word_of, number, combined, Sees}
+use Rattle.register_expressions.specs.Held.{expression_spot, is_literal, literal_in, is_zero_literal, has_element, gives_truth, is_truth}
+use Rattle.register_expressions.specs.Number.{Bases, spot_address, word_given, word_of, number, combined_words, Sees}
 use Rattle.register_expressions.specs.Steps.{operator_steps, before_steps, core_steps, told_steps, operated_steps}
 use Rattle.register_expressions.specs.Steps.{held_steps, element_steps}
 use Rattle.register_expressions.proofs.HeldChecks.{nil_goes, nil_traps, index_goes, index_traps, point_goes}
@@ -51,7 +51,7 @@ truth_again true = refl
 truth_again false = refl
 
 -- so is what these operators give
-own_truth_of : (o : BinOp) → tells o ≡ true → (x y : ℕ) → operated o x y ≡ truth_word (is_true (operated o x y))
+own_truth_of : (o : BinOp) → gives_truth o ≡ true → (x y : ℕ) → operated o x y ≡ truth_word (is_true (operated o x y))
 own_truth_of op.AndAlso t x y = sym (truth_again _)
 own_truth_of op.OrElse t x y = sym (truth_again _)
 own_truth_of op.Less t x y = sym (truth_again _)
@@ -76,26 +76,26 @@ past_is false k = refl
 module _ (spot : List ℕ → Spot) (b : Bases) (zs : List ℕ) where
   -- it has a number
   abbrev pub Fine : Expression → Type 0
-  Fine e = number spot b zs e ≡ Ok (given (number spot b zs e))
+  Fine e = number spot b zs e ≡ Ok (word_given (number spot b zs e))
 
-  pub fine_left : (o : BinOp) (p q : Result ℕ ℕ) → combined o p q ≡ Ok (given (combined o p q)) → p ≡ Ok (given p)
+  pub fine_left : (o : BinOp) (p q : Result ℕ ℕ) → combined_words o p q ≡ Ok (word_given (combined_words o p q)) → p ≡ Ok (word_given p)
   fine_left o (Ok x) q e = refl
   fine_left o (Err c) q e = absurd (cc)
 
-  pub fine_right : (o : BinOp) (p q : Result ℕ ℕ) → combined o p q ≡ Ok (given (combined o p q)) → q ≡ Ok (given q)
+  pub fine_right : (o : BinOp) (p q : Result ℕ ℕ) → combined_words o p q ≡ Ok (word_given (combined_words o p q)) → q ≡ Ok (word_given q)
   fine_right o (Ok x) (Ok y) e = refl
   fine_right o (Ok x) (Err c) e = absurd (cc)
   fine_right o (Err c) q e = absurd (cc)
 
-  both_given : (o : BinOp) (p q : Result ℕ ℕ) → combined o p q ≡ Ok (given (combined o p q))
-      → operated o (given p) (given q) ≡ given (combined o p q)
+  both_given : (o : BinOp) (p q : Result ℕ ℕ) → combined_words o p q ≡ Ok (word_given (combined_words o p q))
+      → operated o (word_given p) (word_given q) ≡ word_given (combined_words o p q)
   both_given o (Ok x) (Ok y) e = refl
   both_given o (Ok x) (Err c) e = absurd (cc)
   both_given o (Err c) q e = absurd (cc)
 
   pub given_is : (at : ℕ) (o : BinOp) (left right : Expression) → Fine (Binary at o left right)
-      → operated o (given (number spot b zs left)) (given (number spot b zs right))
-      ≡ given (number spot b zs (Binary at o left right))
+      → operated o (word_given (number spot b zs left)) (word_given (number spot b zs right))
+      ≡ word_given (number spot b zs (Binary at o left right))
   given_is at o left right h = both_given o (number spot b zs left) (number spot b zs right) h
 
   -- a leaf has none
@@ -113,22 +113,22 @@ module _ (spot : List ℕ → Spot) (b : Bases) (zs : List ℕ) where
   literal_none (Element name index) c e q = absurd (cc)
   literal_none (Binary at o left right) c e q = absurd (cc)
 
-  pub zero_none : (e : Expression) (c : ℕ) → number spot b zs e ≡ Err c → is_zero e ≡ true → ⊥
+  pub zero_none : (e : Expression) (c : ℕ) → number spot b zs e ≡ Err c → is_zero_literal e ≡ true → ⊥
   zero_none (Variable name) c e q = absurd (cc)
   zero_none (Number at word) c e q = absurd (cc)
   zero_none (Null at) c e q = absurd (cc)
   zero_none (Element name index) c e q = absurd (cc)
   zero_none (Binary at o left right) c e q = absurd (cc)
 
-  pub ok_fine : (r : Result ℕ ℕ) (x : ℕ) → r ≡ Ok x → r ≡ Ok (given r)
+  pub ok_fine : (r : Result ℕ ℕ) (x : ℕ) → r ≡ Ok x → r ≡ Ok (word_given r)
   ok_fine (Ok y) x e = refl
   ok_fine (Err c) x e = absurd (cc)
 
   number_of : (at : ℕ) (o : BinOp) (left right : Expression) → Fine left → Fine right
       → number spot b zs (Binary at o left right)
-      ≡ Ok (operated o (given (number spot b zs left)) (given (number spot b zs right)))
-  number_of at o left right e q = ap (λ z. combined o z (number spot b zs right)) e
-      ∙ ap (combined o (Ok (given (number spot b zs left)))) q
+      ≡ Ok (operated o (word_given (number spot b zs left)) (word_given (number spot b zs right)))
+  number_of at o left right e q = ap (λ z. combined_words o z (number spot b zs right)) e
+      ∙ ap (combined_words o (Ok (word_given (number spot b zs left)))) q
 
   -- if no element is read there is no fault
   pub is_number : (e : Expression) → has_element e ≡ false → Fine e
@@ -137,18 +137,18 @@ module _ (spot : List ℕ → Spot) (b : Bases) (zs : List ℕ) where
   is_number (Variable name) h = refl
   is_number (Element name index) h = absurd (cc)
   is_number (Binary at o left right) h = ok_fine (number spot b zs (Binary at o left right))
-      (operated o (given (number spot b zs left)) (given (number spot b zs right)))
+      (operated o (word_given (number spot b zs left)) (word_given (number spot b zs right)))
       (number_of at o left right (is_number left (neither_left (has_element left) (has_element right) h))
       (is_number right (neither_right (has_element left) (has_element right) h)))
 
-  pub literal_is : (e : Expression) → is_literal e ≡ true → given (number spot b zs e) ≡ literal_in e
+  pub literal_is : (e : Expression) → is_literal e ≡ true → word_given (number spot b zs e) ≡ literal_in e
   literal_is (Number at word) q = refl
   literal_is (Null at) q = absurd (cc)
   literal_is (Variable name) q = absurd (cc)
   literal_is (Element name index) q = absurd (cc)
   literal_is (Binary at o left right) q = absurd (cc)
 
-  pub zero_is : (e : Expression) → is_zero e ≡ true → given (number spot b zs e) ≡ 0
+  pub zero_is : (e : Expression) → is_zero_literal e ≡ true → word_given (number spot b zs e) ≡ 0
   zero_is (Number at word) q = grind (arith, nat_tests)
   zero_is (Null at) q = refl
   zero_is (Variable name) q = absurd (cc)
@@ -157,18 +157,18 @@ module _ (spot : List ℕ → Spot) (b : Bases) (zs : List ℕ) where
 
   -- what determines a truth value is that truth value
   pub own_truth : (e : Expression) → Fine e → is_truth e ≡ true
-      → given (number spot b zs e) ≡ truth_word (is_true (given (number spot b zs e)))
+      → word_given (number spot b zs e) ≡ truth_word (is_true (word_given (number spot b zs e)))
   own_truth (Number at word) h t = absurd (cc)
   own_truth (Null at) h t = absurd (cc)
   own_truth (Variable name) h t = absurd (cc)
   own_truth (Element name index) h t = absurd (cc)
   own_truth (Binary at o left right) h t = subst (λ v. v ≡ truth_word (is_true v))
       (given_is at o left right h)
-      (own_truth_of o t (given (number spot b zs left)) (given (number spot b zs right)))
+      (own_truth_of o t (word_given (number spot b zs left)) (word_given (number spot b zs right)))
 
   pub value_word : (low : ℕ) → AllWords zs → (e : Expression) → Sees spot b low zs e → Fine e
-      → given (number spot b zs e) < 2 ^ 32
-  value_word low all e s h = number_word spot b low zs all e s (given (number spot b zs e)) h
+      → word_given (number spot b zs e) < 2 ^ 32
+  value_word low all e s h = number_word spot b low zs all e s (word_given (number spot b zs e)) h
 
 -- the bases are there, and the registers of subexpressions from k on, up to one, are 0
 pub record Free (b : Bases) (k top : ℕ) (f : ℕ → ℕ) : Type 0 where
@@ -309,47 +309,47 @@ module _ (n : ℕ) (b : Bases) (like : List ℕ → Type 0) where
     -- a register changes while a word is out
     pub out_goes : (zs : List ℕ) → like zs → (sp : Spot) (mid : List Symbol) (t d z z' : ℕ) (g : ℕ → ℕ)
         → g OBJECT ≡ b.object → g FRAME ≡ b.frame
-        → g CONTENT ≡ 0 → OBJECT ≢ d → FRAME ≢ d → CONTENT ≢ d → address_of b sp < length zs
+        → g CONTENT ≡ 0 → OBJECT ≢ d → FRAME ≢ d → CONTENT ≢ d → spot_address b sp < length zs
         → Goes mid t
-        (known n (written (taken n g (base_of sp) (address_of b sp) zs) d z) (slice_set zs (address_of b sp) 0))
-        (known n (written (taken n g (base_of sp) (address_of b sp) zs) d z') (slice_set zs (address_of b sp) 0))
+        (known n (written (taken n g (base_of sp) (spot_address b sp) zs) d z) (slice_set zs (spot_address b sp) 0))
+        (known n (written (taken n g (base_of sp) (spot_address b sp) zs) d z') (slice_set zs (spot_address b sp) 0))
         → Goes (around (reach_cells sp) mid) (2 + (t + 2)) (known n (written g d z) zs) (known n (written g d z') zs)
     out_goes zs y sp mid t d z z' g eo ef ec po pf pc h m = goes_around (there z) m (there z')
       where
-        same : (z r : ℕ) → written (written (written g d z) (base_of sp) (address_of b sp)) CONTENT
-            (slice_index zs (address_of b sp)) r
-            ≡ written (written (written g (base_of sp) (address_of b sp)) CONTENT
-            (slice_index zs (address_of b sp))) d z r
-        same z r = written_local (written (written g d z) (base_of sp) (address_of b sp))
-            (written (written g (base_of sp) (address_of b sp)) d z) CONTENT (slice_index zs (address_of b sp)) r
-            (written_both g d z (base_of sp) (address_of b sp) r (base_not sp d po pf))
-            ∙ written_both (written g (base_of sp) (address_of b sp)) d z CONTENT
-            (slice_index zs (address_of b sp)) r (λ e. pc (sym e))
+        same : (z r : ℕ) → written (written (written g d z) (base_of sp) (spot_address b sp)) CONTENT
+            (slice_index zs (spot_address b sp)) r
+            ≡ written (written (written g (base_of sp) (spot_address b sp)) CONTENT
+            (slice_index zs (spot_address b sp))) d z r
+        same z r = written_local (written (written g d z) (base_of sp) (spot_address b sp))
+            (written (written g (base_of sp) (spot_address b sp)) d z) CONTENT (slice_index zs (spot_address b sp)) r
+            (written_both g d z (base_of sp) (spot_address b sp) r (base_not sp d po pf))
+            ∙ written_both (written g (base_of sp) (spot_address b sp)) d z CONTENT
+            (slice_index zs (spot_address b sp)) r (λ e. pc (sym e))
 
         there : (z : ℕ) → Goes (reach_cells sp) 2 (known n (written g d z) zs)
-            (known n (written (taken n g (base_of sp) (address_of b sp) zs) d z)
-            (slice_set zs (address_of b sp) 0))
-        there z = goes_to refl refl (known_same n _ _ (slice_set zs (address_of b sp) 0) (λ r l. same z r))
+            (known n (written (taken n g (base_of sp) (spot_address b sp) zs) d z)
+            (slice_set zs (spot_address b sp) 0))
+        there z = goes_to refl refl (known_same n _ _ (slice_set zs (spot_address b sp) 0) (λ r l. same z r))
             (reach_goes n b (written g d z) zs sp hc (written_off g d z OBJECT po ∙ eo)
             (written_off g d z FRAME pf ∙ ef) (written_off g d z CONTENT pc ∙ ec) h (small zs y))
 
     -- what is in the registers then
-    pub taken_word : (zs : List ℕ) (g : ℕ → ℕ) (sp : Spot) → taken n g (base_of sp) (address_of b sp) zs CONTENT
-        ≡ slice_index zs (address_of b sp)
-    taken_word zs g sp = written_at (written g (base_of sp) (address_of b sp)) CONTENT
-        (slice_index zs (address_of b sp))
+    pub taken_word : (zs : List ℕ) (g : ℕ → ℕ) (sp : Spot) → taken n g (base_of sp) (spot_address b sp) zs CONTENT
+        ≡ slice_index zs (spot_address b sp)
+    taken_word zs g sp = written_at (written g (base_of sp) (spot_address b sp)) CONTENT
+        (slice_index zs (spot_address b sp))
 
     pub taken_other : (zs : List ℕ) (g : ℕ → ℕ) (sp : Spot) (r : ℕ) → OBJECT ≢ r → FRAME ≢ r → CONTENT ≢ r
-        → taken n g (base_of sp) (address_of b sp) zs r ≡ g r
+        → taken n g (base_of sp) (spot_address b sp) zs r ≡ g r
     taken_other zs g sp r po pf pc =
-        written_off (written g (base_of sp) (address_of b sp)) CONTENT (slice_index zs (address_of b sp)) r
-        (λ e. pc (sym e)) ∙ written_off g (base_of sp) (address_of b sp) r (base_not sp r po pf)
+        written_off (written g (base_of sp) (spot_address b sp)) CONTENT (slice_index zs (spot_address b sp)) r
+        (λ e. pc (sym e)) ∙ written_off g (base_of sp) (spot_address b sp) r (base_not sp r po pf)
 
     -- ---- the operands of an operator
 
     abbrev pub Shows : Bool → Spot → ℕ → Type 0
     Shows true sp x = (zs : List ℕ) → like zs
-        → (address_of b sp < length zs) × (slice_index zs (address_of b sp) ≡ x)
+        → (spot_address b sp < length zs) × (slice_index zs (spot_address b sp) ≡ x)
     Shows false sp x = Unit {0}
 
     -- an operator xors its result into a register
@@ -401,7 +401,7 @@ module _ (n : ℕ) (b : Bases) (like : List ℕ → Type 0) where
         change = left_alone;
         give = λ o e f r d z hd away zs s.
             let g : ℕ → ℕ = one.change.puts f in
-            let g' : ℕ → ℕ = taken n g (base_of sp) (address_of b sp) zs in
+            let g' : ℕ → ℕ = taken n g (base_of sp) (spot_address b sp) zs in
             let i = q zs s in
             let ea : g' (part k) ≡ x = taken_other zs g sp (part k) (λ e. omega arith) (λ e. omega arith)
             (λ e. omega arith) ∙ one.has f in
@@ -409,7 +409,7 @@ module _ (n : ℕ) (b : Bases) (like : List ℕ → Type 0) where
             out_goes zs s sp (give_cells o d (part k) CONTENT) (operator_steps o) d z (bit_xor z (operated o x y)) g
             (left_alone.low f OBJECT (omega arith) ∙ r.object_is) (left_alone.low f FRAME (omega arith) ∙ r.frame_is)
             (left_alone.low f CONTENT (omega arith) ∙ r.content_is) away.object_not away.frame_not away.content_not i.0
-            (given_goes o e g' (slice_set zs (address_of b sp) 0) d z (part k) CONTENT x y hd (omega arith) hc
+            (given_goes o e g' (slice_set zs (spot_address b sp) 0) d z (part k) CONTENT x y hd (omega arith) hc
             (none_of away (part k) (omega arith) (omega arith)) away.content_not ea es wx wy);
       }
 
@@ -421,7 +421,7 @@ module _ (n : ℕ) (b : Bases) (like : List ℕ → Type 0) where
         change = right_alone;
         give = λ o e f r d z hd away zs s.
             let g : ℕ → ℕ = two.change.puts f in
-            let g' : ℕ → ℕ = taken n g (base_of sp) (address_of b sp) zs in
+            let g' : ℕ → ℕ = taken n g (base_of sp) (spot_address b sp) zs in
             let i = q zs s in
             let es : g' (part j) ≡ y = taken_other zs g sp (part j) (λ e. omega arith) (λ e. omega arith)
             (λ e. omega arith) ∙ two.has f in
@@ -429,7 +429,7 @@ module _ (n : ℕ) (b : Bases) (like : List ℕ → Type 0) where
             out_goes zs s sp (give_cells o d CONTENT (part j)) (operator_steps o) d z (bit_xor z (operated o x y)) g
             (right_alone.low f OBJECT (omega arith) ∙ r.object_is) (right_alone.low f FRAME (omega arith) ∙ r.frame_is)
             (right_alone.low f CONTENT (omega arith) ∙ r.content_is) away.object_not away.frame_not away.content_not i.0
-            (given_goes o e g' (slice_set zs (address_of b sp) 0) d z CONTENT (part j) x y hd hc (omega arith)
+            (given_goes o e g' (slice_set zs (spot_address b sp) 0) d z CONTENT (part j) x y hd hc (omega arith)
             away.content_not (none_of away (part j) (omega arith) (omega arith)) ea es wx wy);
       }
 
@@ -456,14 +456,14 @@ module _ (n : ℕ) (b : Bases) (like : List ℕ → Type 0) where
       zero_out sp q z0 = record {
         change = no_change;
         give = λ o e f r d z hd away zs s.
-            let g' : ℕ → ℕ = taken n f (base_of sp) (address_of b sp) zs in
+            let g' : ℕ → ℕ = taken n f (base_of sp) (spot_address b sp) zs in
             let i = q zs s in
             let es : g' NOUGHT ≡ y = taken_other zs f sp NOUGHT (λ e. omega arith) (λ e. omega arith)
             (λ e. omega arith) ∙ r.nought_is ∙ sym z0 in
             let ea : g' CONTENT ≡ x = taken_word zs f sp ∙ i.1 in
             out_goes zs s sp (give_cells o d CONTENT NOUGHT) (operator_steps o) d z (bit_xor z (operated o x y)) f
             r.object_is r.frame_is r.content_is away.object_not away.frame_not away.content_not i.0
-            (given_goes o e g' (slice_set zs (address_of b sp) 0) d z CONTENT NOUGHT x y hd hc (omega arith)
+            (given_goes o e g' (slice_set zs (spot_address b sp) 0) d z CONTENT NOUGHT x y hd hc (omega arith)
             away.content_not away.nought_not ea es wx wy);
       }
 
@@ -514,13 +514,13 @@ module _ (n : ℕ) (b : Bases) (like : List ℕ → Type 0) where
               (known n (one.change.puts f) zs) (known n (written (one.change.puts f) (part k) (operated o x y)) zs)
           there f r zs s =
               let g : ℕ → ℕ = one.change.puts f in
-              let g' : ℕ → ℕ = taken n g (base_of ys) (address_of b ys) zs in
+              let g' : ℕ → ℕ = taken n g (base_of ys) (spot_address b ys) zs in
               let i = q zs s in
               from_known zs g (part k) x (operated o x y) (operated o x y) (one.has f) refl
               (out_goes zs s ys (change_cells o (part k) CONTENT) (operator_steps o) (part k) x (operated o x y) g
               (left_alone.low f OBJECT (omega arith) ∙ r.object_is) (left_alone.low f FRAME (omega arith) ∙ r.frame_is)
               (left_alone.low f CONTENT (omega arith) ∙ r.content_is) (λ e. omega arith) (λ e. omega arith)
-              (λ e. omega arith) i.0 (changed_goes o e g' (slice_set zs (address_of b ys) 0) (part k) CONTENT x y
+              (λ e. omega arith) i.0 (changed_goes o e g' (slice_set zs (spot_address b ys) 0) (part k) CONTENT x y
               (omega arith) hc (λ e. omega arith) (taken_word zs g ys ∙ i.1) wx wy))
       changed o e false xs ys q = record {
         change = then_written (operated o x y) (omega arith) (omega arith) both_there there;
@@ -643,8 +643,8 @@ module _ (n : ℕ) (b : Bases) (like : List ℕ → Type 0) where
         → Goes (around (reach_cells sp) (xor (part k) CONTENT ∷ [])) 5 (known n (written f (part k) 0) zs)
         (known n (written f (part k) (bit_xor 0 x)) zs)
     copy_goes sp k x h q f r zs s =
-        let f' : ℕ → ℕ = taken n f (base_of sp) (address_of b sp) zs in
-        let ws : List ℕ = slice_set zs (address_of b sp) 0 in
+        let f' : ℕ → ℕ = taken n f (base_of sp) (spot_address b sp) zs in
+        let ws : List ℕ = slice_set zs (spot_address b sp) 0 in
         let i = q zs s in
         out_goes zs s sp (xor (part k) CONTENT ∷ []) 1 (part k) 0 (bit_xor 0 x) f r.object_is r.frame_is r.content_is
         (λ e. omega arith) (λ e. omega arith) (λ e. omega arith) i.0
@@ -697,7 +697,7 @@ module _ (n : ℕ) (b : Bases) (like : List ℕ → Type 0) where
       abbrev pub with_array : Changes (w ++ copy_cells sp (part (k + 1))) (t + 5) k (k + (2 + m))
       with_array = then_written {j = k + 1} arr (omega arith) (omega arith) opened_index (λ f r ws y.
           (let g : ℕ → ℕ = one.change.puts f in
-          let g' : ℕ → ℕ = taken n g (base_of sp) (address_of b sp) ws in
+          let g' : ℕ → ℕ = taken n g (base_of sp) (spot_address b sp) ws in
           let i = shown ws y in
           from_known ws g (part (k + 1)) 0 (bit_xor 0 arr) arr
           (one.change.low f (part (k + 1)) (omega arith) ∙ r.clear (part (k + 1)) (omega arith) (omega arith))
@@ -707,8 +707,8 @@ module _ (n : ℕ) (b : Bases) (like : List ℕ → Type 0) where
           (one.change.low f CONTENT (omega arith) ∙ r.content_is) (λ e. omega arith) (λ e. omega arith)
           (λ e. omega arith) i.0
           (goes_to refl refl (ap (λ z. known n (written g' (part (k + 1)) (bit_xor 0 z))
-          (slice_set ws (address_of b sp) 0)) (taken_word ws g sp ∙ i.1))
-          (xor_goes n g' (slice_set ws (address_of b sp) 0) (part (k + 1)) (omega arith) CONTENT hc
+          (slice_set ws (spot_address b sp) 0)) (taken_word ws g sp ∙ i.1))
+          (xor_goes n g' (slice_set ws (spot_address b sp) 0) (part (k + 1)) (omega arith) CONTENT hc
           (λ e. omega arith) 0)))))
 
       pub has_array : (f : ℕ → ℕ) → with_array.puts f (part (k + 1)) ≡ arr
@@ -771,8 +771,8 @@ module _ (n : ℕ) (b : Bases) (like : List ℕ → Type 0) where
       abbrev pub Alike : Expression → Type 0
       Alike e = (ws : List ℕ) → like ws → Reads ws e
 
-      pub shows : (e : Expression) → Sees spot b low zs e → Alike e → Shows (is_variable e) (spot_in spot e)
-          (given (number spot b zs e))
+      pub shows : (e : Expression) → Sees spot b low zs e → Alike e → Shows (is_variable e) (expression_spot spot e)
+          (word_given (number spot b zs e))
       shows (Number at word) s a = tt
       shows (Null at) s a = tt
       shows (Variable name) s a = λ ws y. (let l = inside ws y in omega arith, a ws y)
@@ -781,10 +781,10 @@ module _ (n : ℕ) (b : Bases) (like : List ℕ → Type 0) where
 
       pub told_opens : (e : Expression) (k : ℕ) → part (k + told_need e) ≤ n → Fine spot b zs e → Sees spot b low zs e
           → Opens (held_cells spot e (past (is_truth e) k)) (held_steps e) (past (is_truth e) k)
-          (past (is_truth e) k + need e) (given (number spot b zs e))
+          (past (is_truth e) k + need e) (word_given (number spot b zs e))
           → Opens (told_cells (is_truth e) (held_cells spot e (past (is_truth e) k)) k)
           (told_steps (is_truth e) (held_steps e)) k (k + told_need e)
-          (truth_word (is_true (given (number spot b zs e))))
+          (truth_word (is_true (word_given (number spot b zs e))))
       told_opens e k room h s one = told_by (is_truth e) (own_truth spot b zs e h) (need_least e)
           (value_word spot b zs low all e s h) room one
 
@@ -795,13 +795,13 @@ module _ (n : ℕ) (b : Bases) (like : List ℕ → Type 0) where
       reads_self (Element name index) = refl
       reads_self (Binary at o left right) = (reads_self left, reads_self right)
 
-      index_of : (arr : ℕ) (r : Result ℕ ℕ) (v : ℕ) → word_in zs (element_at zs arr r) ≡ Ok v → r ≡ Ok (given r)
+      index_of : (arr : ℕ) (r : Result ℕ ℕ) (v : ℕ) → word_in zs (element_at zs arr r) ≡ Ok v → r ≡ Ok (word_given r)
       index_of arr (Ok x) v e = refl
       index_of arr (Err c) v e = absurd (cc)
 
       pub index_fine : (name : List ℕ) (index : Expression)
           → word_in zs (element_at zs (word_of spot b zs name) (number spot b zs index))
-          ≡ Ok (given (word_in zs (element_at zs (word_of spot b zs name) (number spot b zs index))))
+          ≡ Ok (word_given (word_in zs (element_at zs (word_of spot b zs name) (number spot b zs index))))
           → Fine spot b zs index
       index_fine name index e = index_of (word_of spot b zs name) (number spot b zs index) _ e
 
@@ -809,20 +809,20 @@ module _ (n : ℕ) (b : Bases) (like : List ℕ → Type 0) where
       module _ (name : Ident) (index : Expression) (k : ℕ) (room : part (k + (2 + need index)) ≤ n)
           (s : Sees spot b low zs (Element name index)) (alike : Alike (Element name index))
           (one : Opens (held_cells spot index (k + 2)) (held_steps index) (k + 2)
-          (k + 2 + need index) (given (number spot b zs index))) where
+          (k + 2 + need index) (word_given (number spot b zs index))) where
         abbrev arr : ℕ
         arr = word_of spot b zs name.text
 
         abbrev x : ℕ
-        x = given (number spot b zs index)
+        x = word_given (number spot b zs index)
 
         abbrev v : ℕ
-        v = given (number spot b zs (Element name index))
+        v = word_given (number spot b zs (Element name index))
 
         shown_array : Shows true (spot name.text) (word_of spot b zs name.text)
         shown_array ws y = (
           let l = inside ws y in let h = s.0 in omega arith,
-          ap (λ u. slice_index u (address_of b (spot name.text))) (alike ws y),
+          ap (λ u. slice_index u (spot_address b (spot name.text))) (alike ws y),
         )
 
         abbrev array_opened : Changes (held_cells spot index (k + 2) ++ copy_cells (spot name.text) (part (k + 1)))
@@ -832,15 +832,15 @@ module _ (n : ℕ) (b : Bases) (like : List ℕ → Type 0) where
         array_has : (f : ℕ → ℕ) → array_opened.puts f (part (k + 1)) ≡ word_of spot b zs name.text
         array_has f = has_array k (need index) (need_least index) room one (spot name.text) arr shown_array f
 
-        index_has : (f : ℕ → ℕ) → array_opened.puts f (part (k + 2)) ≡ given (number spot b zs index)
+        index_has : (f : ℕ → ℕ) → array_opened.puts f (part (k + 2)) ≡ word_given (number spot b zs index)
         index_has f = has_index k (need index) (need_least index) room one (spot name.text) arr shown_array f
 
         module _ (fine : Fine spot b zs (Element name index)) where
           abbrev in_word : (addr : ℕ) × (element_at zs (word_of spot b zs name.text) (number spot b zs index) ≡ Ok addr)
-              × (slice_index zs addr ≡ given (number spot b zs (Element name index)))
+              × (slice_index zs addr ≡ word_given (number spot b zs (Element name index)))
           in_word = address_of_word zs (element_at zs arr (number spot b zs index)) v fine
 
-          stands_there : like zs → HasElement (word_of spot b zs name.text) (given (number spot b zs index)) zs
+          stands_there : like zs → HasElement (word_of spot b zs name.text) (word_given (number spot b zs index)) zs
           stands_there y =
               let i = inside_of zs arr (number spot b zs index) in_word.0 in_word.1 in
               let e : x ≡ i.x = ok_is (sym (index_fine name.text index fine) ∙ i.index) in
@@ -857,18 +857,18 @@ module _ (n : ℕ) (b : Bases) (like : List ℕ → Type 0) where
                 below = omega arith;
               }
 
-          word_there : slice_index zs (word_of spot b zs name.text + given (number spot b zs index) + HEADER_WORDS)
-              ≡ given (number spot b zs (Element name index))
+          word_there : slice_index zs (word_of spot b zs name.text + word_given (number spot b zs index) + HEADER_WORDS)
+              ≡ word_given (number spot b zs (Element name index))
           word_there =
               let i = inside_of zs arr (number spot b zs index) in_word.0 in_word.1 in
               let e : x ≡ i.x = ok_is (sym (index_fine name.text index fine) ∙ i.index) in
               ap (λ z. slice_index zs (arr + z + HEADER_WORDS)) e ∙ ap (slice_index zs) i.at ∙ in_word.2
 
           stands : (ws : List ℕ) → like ws
-              → HasElement (word_of spot b zs name.text) (given (number spot b zs index)) ws
+              → HasElement (word_of spot b zs name.text) (word_given (number spot b zs index)) ws
           stands ws y =
               let q = alike ws y in
-              subst (λ u. HasElement (word_of spot b zs name.text) (given (number spot b zs index)) u) (sym q)
+              subst (λ u. HasElement (word_of spot b zs name.text) (word_given (number spot b zs index)) u) (sym q)
               (stands_there (subst like q y))
 
           abbrev place_opened : Changes (element_cells spot name.text (held_cells spot index (k + 2)) k)
@@ -876,7 +876,7 @@ module _ (n : ℕ) (b : Bases) (like : List ℕ → Type 0) where
           place_opened = pointed k (need index) (need_least index) room one (spot name.text) arr shown_array stands
 
           element_opens : Opens (held_cells spot (Element name index) k) (held_steps (Element name index)) k
-              (k + (2 + need index)) (given (number spot b zs (Element name index)))
+              (k + (2 + need index)) (word_given (number spot b zs (Element name index)))
           element_opens = record {
             change = then_written v (omega arith) (omega arith) place_opened (λ f r ws y.
                 (let q = alike ws y in
@@ -907,7 +907,7 @@ module _ (n : ℕ) (b : Bases) (like : List ℕ → Type 0) where
 
       pub held_opens : (e : Expression) (k : ℕ) → part (k + need e) ≤ n → need e < 10 → Fine spot b zs e
           → Sees spot b low zs e → Alike e
-          → Opens (held_cells spot e k) (held_steps e) k (k + need e) (given (number spot b zs e))
+          → Opens (held_cells spot e k) (held_steps e) k (k + need e) (word_given (number spot b zs e))
       held_opens (Number at word) k r h g s a = opens_by word (omega arith)
           (λ f q ws y. xori_goes n f ws (part k) (omega arith) word 0 s)
       held_opens (Null at) k r h g s a = opens_by 0 (omega arith)
@@ -925,9 +925,9 @@ module _ (n : ℕ) (b : Bases) (like : List ℕ → Type 0) where
           s.1 (λ ws y. let i = a ws y in i.1)) (kind o) refl r h
         where
           by : ((j : ℕ) → part (j + need left) ≤ n → need left < 10
-              → Opens (held_cells spot left j) (held_steps left) j (j + need left) (given (number spot b zs left)))
+              → Opens (held_cells spot left j) (held_steps left) j (j + need left) (word_given (number spot b zs left)))
               → ((j : ℕ) → part (j + need right) ≤ n → need right < 10
-              → Opens (held_cells spot right j) (held_steps right) j (j + need right) (given (number spot b zs right)))
+              → Opens (held_cells spot right j) (held_steps right) j (j + need right) (word_given (number spot b zs right)))
               → (c : Kind) → kind o ≡ c
               → part (k + (own c (is_truth left) (is_truth right) + (need left + need right))) ≤ n
               → own c (is_truth left) (is_truth right) + (need left + need right) < 10
@@ -935,7 +935,7 @@ module _ (n : ℕ) (b : Bases) (like : List ℕ → Type 0) where
               (held_cells spot right (right_at c (is_truth left) (is_truth right) (need left) k)) k)
               (operated_steps c o left right (held_steps left) (held_steps right)) k
               (k + (own c (is_truth left) (is_truth right) + (need left + need right)))
-              (given (number spot b zs (Binary at o left right)))
+              (word_given (number spot b zs (Binary at o left right)))
           by one two which.Changes e r h =
               let i = need_least left in
               let j = need_least right in
@@ -946,7 +946,7 @@ module _ (n : ℕ) (b : Bases) (like : List ℕ → Type 0) where
               (number spot b zs right) g))
               (value_word spot b zs low all right s.1 (fine_right spot b zs o (number spot b zs left)
               (number spot b zs right) g)) o e (is_literal right) (is_variable right)
-              (literal_in right) (literal_is spot b zs right) (spot_in spot left) (spot_in spot right)
+              (literal_in right) (literal_is spot b zs right) (expression_spot spot left) (expression_spot spot right)
               (shows right s.1 (λ ws y. let i = a ws y in i.1)))
           by one two Gives e r h =
               let i = need_least left in
@@ -958,8 +958,8 @@ module _ (n : ℕ) (b : Bases) (like : List ℕ → Type 0) where
               (value_word spot b zs low all left s.0 (fine_left spot b zs o (number spot b zs left)
               (number spot b zs right) g))
               (value_word spot b zs low all right s.1 (fine_right spot b zs o (number spot b zs left)
-              (number spot b zs right) g)) (is_zero right) (is_variable left)
-              (is_variable right) (spot_in spot left) (spot_in spot right) (zero_is spot b zs right)
+              (number spot b zs right) g)) (is_zero_literal right) (is_variable left)
+              (is_variable right) (expression_spot spot left) (expression_spot spot right) (zero_is spot b zs right)
               (shows left s.0 (λ ws y. let i = a ws y in i.0))
               (shows right s.1 (λ ws y. let i = a ws y in i.1))))
           by one two Joins e r h =
@@ -1039,7 +1039,7 @@ module _ (n : ℕ) (b : Bases) (like : List ℕ → Type 0) where
           (inner_traps : number spot b zs index ≡ Err c
           → Traps (held_cells spot index (k + 2)) (held_steps index) c (known n f zs)) where
         opens_index : Fine spot b zs index → Opens (held_cells spot index (k + 2)) (held_steps index) (k + 2)
-            (k + 2 + need index) (given (number spot b zs index))
+            (k + 2 + need index) (word_given (number spot b zs index))
         opens_index g = held_opens index (k + 2) (omega arith) (omega arith) g s.2
             (λ ws q. subst (λ u. Reads u index) (sym (a ws q)) (reads_self index))
 
@@ -1066,7 +1066,7 @@ module _ (n : ℕ) (b : Bases) (like : List ℕ → Type 0) where
             let a0 = need_least index in
             let ea = array_has name index k r s a (opens_index g) f in
             let ei = index_has name index k r s a (opens_index g) f in
-            let ix : given (number spot b zs index) ≡ x = ap given q in
+            let ix : word_given (number spot b zs index) ≡ x = ap word_given q in
             let xw = value_word spot b zs low all index s.2 g in
             let block = s.1.room z in
             let short = s.1.short z in
@@ -1125,7 +1125,7 @@ module _ (n : ℕ) (b : Bases) (like : List ℕ → Type 0) where
               (less_free (omega arith) (omega arith) f p) w))
           by tl tr Gives r h p w = traps_more (omega arith) (traps_first (core_cells spot Gives o left right k)
               (before_traps left right (k + 1) (k + 1 + need left) c (omega arith) s.0 to_left y (tl (omega arith))
-              (tr (omega arith)) f (is_zero right) (is_variable left) (is_variable right) (leaf_none spot b zs left c)
+              (tr (omega arith)) f (is_zero_literal right) (is_variable left) (is_variable right) (leaf_none spot b zs left c)
               (zero_none spot b zs right c) (leaf_none spot b zs right c) refl (omega arith)
               (less_free (omega arith) (omega arith) f p) w))
           by tl tr Joins r h p w = traps_more (omega arith) (traps_first (core_cells spot Joins o left right k)

@@ -7,7 +7,7 @@ use Rattle.rpp_tree.specs.declared.tree.BinOp.TheVariants as op
 use Rattle.code_scope.specs.pisa_isa.Table.{word_of}
 use Rattle.code_scope.specs.pisa_isa.Machine.{Memory}
 use Rattle.code_scope.specs.code_conventions.declared.registers.TheConstants.{LEFT, LEFT_TRUTH, RIGHT, RIGHT_TRUTH}
-use Rattle.code_scope.specs.paired_code.Machine.{reg}
+use Rattle.code_scope.specs.paired_code.Machine.{memory_reg}
 use Rattle.code_scope.specs.roopl_semantics.Operators.{operated, is_true, truth_word}
 use Rattle.register_expressions.specs.Code.{truth_cells, operator_cells, operator_result}
 use Rattle.register_expressions.specs.Number.{Bases}
@@ -121,7 +121,7 @@ module _ (m p q : ℕ) where
 
   -- and the register that has the result
   pub operator_gives : (b : Bases) (f : ℕ → ℕ) (cells : List ℕ) (x y : ℕ) (o : BinOp)
-      → reg (mem b f (operated_scratch o x y) cells) (operator_result o) ≡ operated o x y
+      → memory_reg (mem b f (operated_scratch o x y) cells) (operator_result o) ≡ operated o x y
   operator_gives b f cells x y op.Add = refl
   operator_gives b f cells x y op.Sub = refl
   operator_gives b f cells x y op.Xor = refl

@@ -7,7 +7,7 @@ use Rattle.code_scope.specs.paired_code.declared.part.Symbol.{Symbol}
 use Rattle.code_scope.specs.refine_form.declared.spot.Spot.{Spot}
 use Rattle.code_scope.specs.refine_form.declared.spot.Spot.TheVariants.{Field, Frame}
 use Rattle.register_expressions.specs.Code.{xor, xori, around, reach_cells, copy_cells, store_cells}
-use Rattle.register_expressions.specs.Number.{Bases, address_of}
+use Rattle.register_expressions.specs.Number.{Bases, spot_address}
 use Rattle.register_expressions.proofs.Goes.{Goes, goes_cons, goes_around, goes_to, goes_set, goes_addi, goes_exch}
 use Rattle.register_expressions.proofs.Scratch.{Scratch, mem}
 use Rattle.code_scope.specs.code_conventions.declared.registers.TheConstants.{CONTENT, ITEM, LEFT, OUTCOME, RIGHT, TRUTH}
@@ -23,23 +23,23 @@ pub data HasResult : ℕ → Type 0 where
 module _ (b : Bases) where
   -- the bases while the word of a storage slot is out: its own is at the word
   abbrev pub moved : Spot → Bases
-  moved (Field i) = record b { object = address_of b (Field i) }
-  moved (Frame i) = record b { frame = address_of b (Frame i) }
+  moved (Field i) = record b { object = spot_address b (Field i) }
+  moved (Frame i) = record b { frame = spot_address b (Frame i) }
 
-  pub reach_goes : (f : ℕ → ℕ) (s : Scratch) (cells : List ℕ) (sp : Spot) → address_of b sp < length cells
+  pub reach_goes : (f : ℕ → ℕ) (s : Scratch) (cells : List ℕ) (sp : Spot) → spot_address b sp < length cells
       → length cells ≤ 2 ^ 31
       → Goes (reach_cells sp) 2 (mem b f (record s { content = 0 }) cells)
-      (mem (moved sp) f (record s { content = slice_index cells (address_of b sp) })
-      (slice_set cells (address_of b sp) 0))
+      (mem (moved sp) f (record s { content = slice_index cells (spot_address b sp) })
+      (slice_set cells (spot_address b sp) 0))
   reach_goes f s cells (Field i) h k =
-      let a : ℕ = address_of b (Field i) in
+      let a : ℕ = spot_address b (Field i) in
       goes_cons (goes_addi _ (λ z. mem (record b { object = z }) f (record s { content = 0 }) cells) b.object
       (HEADER_WORDS + i)
       (omega arith) refl (omega arith) (λ z. refl) (λ z. refl))
       (goes_exch _ (λ z zs. mem (record b { object = a }) f (record s { content = z }) zs) a 0 cells h refl
       (omega arith) (λ z zs. refl) (λ z zs. refl))
   reach_goes f s cells (Frame i) h k =
-      let a : ℕ = address_of b (Frame i) in
+      let a : ℕ = spot_address b (Frame i) in
       goes_cons (goes_addi _ (λ z. mem (record b { frame = z }) f (record s { content = 0 }) cells) b.frame i
       (omega arith) refl (omega arith) (λ z. refl) (λ z. refl))
       (goes_exch _ (λ z zs. mem (record b { frame = a }) f (record s { content = z }) zs) a 0 cells h refl
@@ -76,28 +76,28 @@ module _ (b : Bases) where
 
   -- a word of memory copied
   pub copy_goes : {into v : ℕ} {f f' : ℕ → ℕ} {s s' : Scratch} (cells : List ℕ) (sp : Spot)
-      → address_of b sp < length cells → length cells ≤ 2 ^ 31 → slice_index cells (address_of b sp) ≡ v
+      → spot_address b sp < length cells → length cells ≤ 2 ^ 31 → slice_index cells (spot_address b sp) ≡ v
       → Takes into v f f' s s'
       → Goes (copy_cells sp into) 5 (mem b f (record s { content = 0 }) cells)
       (mem b f' (record s' { content = 0 }) cells)
   copy_goes {into = into} {v = v} {f = f} {f' = f'} {s = s} {s' = s'} cells sp h k e t =
-      let emptied : List ℕ = slice_set cells (address_of b sp) 0 in
+      let emptied : List ℕ = slice_set cells (spot_address b sp) 0 in
       let there : (g : ℕ → ℕ) (r : Scratch) → Goes (reach_cells sp) 2
       (mem b g (record r { content = 0 }) cells)
-      (mem (moved sp) g (record r { content = v }) (slice_set cells (address_of b sp) 0)) =
+      (mem (moved sp) g (record r { content = v }) (slice_set cells (spot_address b sp) 0)) =
       λ g r. goes_to refl refl (ap (λ z. mem (moved sp) g (record r { content = z }) emptied) e)
       (reach_goes g r cells sp h k) in
       goes_around (there f s) (t.by_content (moved sp) emptied) (there f' s')
 
   -- a word of memory changed in `CONTENT`
   pub changed_goes : {mid : List Symbol} {n : ℕ} (x y : ℕ) (f : ℕ → ℕ) (s : Scratch) (cells : List ℕ) (sp : Spot)
-      → address_of b sp < length cells → length cells ≤ 2 ^ 31 → slice_index cells (address_of b sp) ≡ x
+      → spot_address b sp < length cells → length cells ≤ 2 ^ 31 → slice_index cells (spot_address b sp) ≡ x
       → ((c : Bases) (zs : List ℕ) → Goes mid n (mem c f (record s { content = x }) zs)
       (mem c f (record s { content = y }) zs))
       → Goes (around (reach_cells sp) mid) (2 + (n + 2)) (mem b f (record s { content = 0 }) cells)
-      (mem b f (record s { content = 0 }) (slice_set cells (address_of b sp) y))
+      (mem b f (record s { content = 0 }) (slice_set cells (spot_address b sp) y))
   changed_goes x y f s cells sp h k e change =
-      let a : ℕ = address_of b sp in
+      let a : ℕ = spot_address b sp in
       let first = goes_to refl refl (ap (λ z. mem (moved sp) f (record s { content = z }) (slice_set cells a 0)) e)
       (reach_goes f s cells sp h k) in
       let h' : a < length (slice_set cells a y) = rw (length-set cells a y) h in
@@ -109,10 +109,10 @@ module _ (b : Bases) where
       goes_around first (change (moved sp) (slice_set cells a 0)) last
 
   -- a register xored into a word of memory that is 0
-  pub store_goes : (r v : ℕ) (f : ℕ → ℕ) (s : Scratch) (cells : List ℕ) (sp : Spot) → address_of b sp < length cells
-      → length cells ≤ 2 ^ 31 → slice_index cells (address_of b sp) ≡ 0
+  pub store_goes : (r v : ℕ) (f : ℕ → ℕ) (s : Scratch) (cells : List ℕ) (sp : Spot) → spot_address b sp < length cells
+      → length cells ≤ 2 ^ 31 → slice_index cells (spot_address b sp) ≡ 0
       → ((c : Bases) (zs : List ℕ) → Goes (xor CONTENT r ∷ []) 1 (mem c f (record s { content = 0 }) zs)
       (mem c f (record s { content = v }) zs))
       → Goes (store_cells sp r) 5 (mem b f (record s { content = 0 }) cells)
-      (mem b f (record s { content = 0 }) (slice_set cells (address_of b sp) v))
+      (mem b f (record s { content = 0 }) (slice_set cells (spot_address b sp) v))
   store_goes r v f s cells sp h k e sink = changed_goes 0 v f s cells sp h k e sink

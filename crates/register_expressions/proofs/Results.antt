@@ -6,7 +6,7 @@ use Rattle.code_scope.specs.pisa_isa.Table.{word_of}
 use Rattle.code_scope.specs.rpp_words.Words.{is_less}
 use Rattle.code_scope.specs.pisa_isa.Machine.{Memory}
 use Rattle.code_scope.specs.code_conventions.declared.registers.TheConstants.{AMOUNT, CONTENT, ITEM, LEFT, NOUGHT, OUTCOME, TRUTH}
-use Rattle.code_scope.specs.paired_code.Machine.{reg}
+use Rattle.code_scope.specs.paired_code.Machine.{memory_reg}
 use Rattle.code_scope.specs.paired_code.Pieces.{Done}
 use Rattle.code_scope.specs.roopl_semantics.Operators.{is_true, truth_word}
 use Rattle.register_expressions.specs.Code.{Target, xor, truth_cells}
@@ -60,7 +60,7 @@ written f i v j = if nat_eq j i then v else f j
 
 module _ (b : Bases) where
   same_result : (r : ℕ) → HasResult r → (f g : ℕ → ℕ) (s : Scratch) (zs : List ℕ)
-      → reg (mem b f s zs) r ≡ reg (mem b g s zs) r
+      → memory_reg (mem b f s zs) r ≡ memory_reg (mem b g s zs) r
   same_result r in_content f g s zs = refl
   same_result r in_outcome f g s zs = refl
   same_result r in_left f g s zs = refl
@@ -68,11 +68,11 @@ module _ (b : Bases) where
   same_result r in_truth f g s zs = refl
 
   -- xored into one of them
-  module _ (f : ℕ → ℕ) (s : Scratch) (zs : List ℕ) (r v : ℕ) (h : HasResult r) (e : reg (mem b f s zs) r ≡ v) where
+  module _ (f : ℕ → ℕ) (s : Scratch) (zs : List ℕ) (r v : ℕ) (h : HasResult r) (e : memory_reg (mem b f s zs) r ≡ v) where
     abbrev put : (i x : ℕ) → Memory
     put i x = mem b (written f i x) s zs
 
-    gives : (i x : ℕ) → Done (put i (bit_xor x (reg (put i x) r))) 1 ≡ Done (put i (bit_xor x v)) 1
+    gives : (i x : ℕ) → Done (put i (bit_xor x (memory_reg (put i x) r))) 1 ≡ Done (put i (bit_xor x v)) 1
     gives i x = ap (λ z. Done (put i (bit_xor x z)) 1) (same_result r h (written f i x) f s zs ∙ e)
 
     pub into_goes : (i : ℕ) → IsTarget i → Goes (xor i r ∷ []) 1 (mem b f s zs)
@@ -93,7 +93,7 @@ module _ (b : Bases) where
     into_goes i at31 = goes_xor _ (put 31) (f 31) v refl (omega arith) (gives 31) (gives 31)
 
   -- kept in `AMOUNT`
-  pub amount_goes : (r : ℕ) → HasResult r → (f : ℕ → ℕ) (s : Scratch) (zs : List ℕ) (v : ℕ) → reg (mem b f s zs) r ≡ v
+  pub amount_goes : (r : ℕ) → HasResult r → (f : ℕ → ℕ) (s : Scratch) (zs : List ℕ) (v : ℕ) → memory_reg (mem b f s zs) r ≡ v
       → Goes (xor AMOUNT r ∷ []) 1 (mem b f (record s { amount = 0 }) zs) (mem b f (record s { amount = v }) zs)
   amount_goes r in_content f s zs v e = goes_to refl refl (ap (λ z. mem b f (record s { amount = z }) zs) e)
       (goes_set _ (λ z. mem b f (record s { amount = z }) zs) s.content refl (omega arith) (λ z. refl) (λ z. refl))
@@ -108,7 +108,7 @@ module _ (b : Bases) where
 
   -- into the word that is open
   pub content_goes : (r : ℕ) → r ≢ CONTENT → HasResult r → (f : ℕ → ℕ) (s : Scratch) (v : ℕ)
-      → ((zs : List ℕ) → reg (mem b f s zs) r ≡ v) → (c : Bases) (zs : List ℕ)
+      → ((zs : List ℕ) → memory_reg (mem b f s zs) r ≡ v) → (c : Bases) (zs : List ℕ)
       → Goes (xor CONTENT r ∷ []) 1 (mem c f (record s { content = 0 }) zs)
       (mem c f (record s { content = v }) zs)
   content_goes r n in_content f s v e c zs = absurd (n refl)
@@ -139,7 +139,7 @@ module _ (b : Bases) where
   truth_by r v put h g k = goes_cons g (goes_to refl refl (ap put (truth_of v h)) k)
 
   pub truth_goes : (r : ℕ) → r ≢ TRUTH → HasResult r → (f : ℕ → ℕ) (s : Scratch) (zs : List ℕ) (v : ℕ) → v < 2 ^ 32
-      → reg (mem b f s zs) r ≡ v → Goes (truth_cells TRUTH r) 2 (mem b f (record s { truth = 0 }) zs)
+      → memory_reg (mem b f s zs) r ≡ v → Goes (truth_cells TRUTH r) 2 (mem b f (record s { truth = 0 }) zs)
       (mem b f (record s { truth = truth_word (is_true v) }) zs)
   truth_goes r n in_content f s zs v h e =
       let put : ℕ → Memory = λ z. mem b f (record s { truth = z }) zs in

@@ -4,7 +4,7 @@ use Rattle.std.specs.Prelude.{slice_index, Result, Ok, Err}
 use Rattle.code_scope.specs.code_conventions.declared.memory.TheConstants.{HEADER_WORDS}
 use Rattle.rpp_tree.specs.declared.tree.BinOp.{BinOp}
 use Rattle.code_scope.specs.roopl_semantics.Operators.{operated}
-use Rattle.register_expressions.specs.Number.{element_address, element_at, word_in, combined}
+use Rattle.register_expressions.specs.Number.{element_address, element_at, word_in, combined_words}
 use Rattle.register_expressions.proofs.Numbers.{element_nil, element_inside, element_past, Way, nil, inside, past}
 use Rattle.register_expressions.proofs.Numbers.{way_of}
 
@@ -21,12 +21,12 @@ pub record BothOk (o : BinOp) (l r : Result ℕ ℕ) (v : ℕ) : Type 0 where
   pub right : r ≡ Ok y
   pub is : operated o x y ≡ v
 
-pub both_ok : (o : BinOp) (l r : Result ℕ ℕ) (v : ℕ) → combined o l r ≡ Ok v → BothOk o l r v
+pub both_ok : (o : BinOp) (l r : Result ℕ ℕ) (v : ℕ) → combined_words o l r ≡ Ok v → BothOk o l r v
 both_ok o (Err c) r v e = absurd (cc)
 both_ok o (Ok x) (Err c) v e = absurd (cc)
 both_ok o (Ok x) (Ok y) v e = record { x = x; y = y; left = refl; right = refl; is = ok_is e }
 
-pub one_err : (o : BinOp) (l r : Result ℕ ℕ) (c : ℕ) → combined o l r ≡ Err c
+pub one_err : (o : BinOp) (l r : Result ℕ ℕ) (c : ℕ) → combined_words o l r ≡ Err c
     → (l ≡ Err c) ⊎ ((x : ℕ) × (l ≡ Ok x) × (r ≡ Err c))
 one_err o (Err d) r c e = inl e
 one_err o (Ok x) (Err d) c e = inr (x, refl, e)

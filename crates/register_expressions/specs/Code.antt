@@ -23,7 +23,7 @@ use Rattle.register_expressions.specs.declared.held.Kind.{Kind}
 use Rattle.register_expressions.specs.declared.held.Kind.TheVariants.{Changes, Gives, Joins}
 use Rattle.register_expressions.specs.declared.held.Kind.TheVariants.{Neither}
 use Rattle.register_expressions.specs.Held.{kind, past, need, told_need, left_at, right_at}
-use Rattle.register_expressions.specs.Held.{is_variable, is_literal, literal_in, is_zero, spot_in}
+use Rattle.register_expressions.specs.Held.{is_variable, is_literal, literal_in, is_zero_literal, expression_spot}
 use Rattle.register_expressions.specs.Held.{is_truth}
 pub use Rattle.refine_form.specs.Cells.{around, base_of}
 
@@ -206,7 +206,7 @@ abbrev pub before_cells : Kind → (left right : Expression) → (w v : List Sym
 before_cells Changes left right w v k =
     before (is_literal right) false (is_variable right) w v
 before_cells Gives left right w v k =
-    before (is_zero right) (is_variable left) (is_variable right) w v
+    before (is_zero_literal right) (is_variable left) (is_variable right) w v
 before_cells Joins left right w v k = told_cells (is_truth left) w (k + 1)
     ++ told_cells (is_truth right) v (k + 1 + told_need left)
 before_cells Neither left right w v k = []
@@ -220,10 +220,10 @@ module _ (spot : List ℕ → Spot) where
   abbrev pub core_cells : Kind → BinOp → (left right : Expression) → (k : ℕ) → List Symbol
   core_cells Changes o left right k =
       if is_literal right then literal_cells o (part k) (literal_in right)
-      else core false false (is_variable right) (spot_in spot left) (spot_in spot right) (part k)
+      else core false false (is_variable right) (expression_spot spot left) (expression_spot spot right) (part k)
       (part (k + need left)) (λ a s. change_cells o a s)
-  core_cells Gives o left right k = core (is_zero right) (is_variable left) (is_variable right)
-      (spot_in spot left) (spot_in spot right) (part (k + 1)) (part (k + 1 + need left))
+  core_cells Gives o left right k = core (is_zero_literal right) (is_variable left) (is_variable right)
+      (expression_spot spot left) (expression_spot spot right) (part (k + 1)) (part (k + 1 + need left))
       (λ a s. give_cells o (part k) a s)
   core_cells Joins o left right k =
       give_cells o (part k) (part (k + 1)) (part (k + 1 + told_need left))
@@ -256,10 +256,10 @@ module _ (spot : List ℕ → Spot) where
   abbrev pub given_cells : Kind → BinOp → (left right : Expression) → Expression → (into : ℕ)
       → List Symbol
   given_cells Gives o left right e into =
-      around (before (is_zero right) (is_variable left) (is_variable right) (held_cells left 0)
+      around (before (is_zero_literal right) (is_variable left) (is_variable right) (held_cells left 0)
       (held_cells right (need left)))
-      (core (is_zero right) (is_variable left) (is_variable right) (spot_in spot left)
-      (spot_in spot right) (part 0) (part (need left)) (λ a s. give_cells o into a s))
+      (core (is_zero_literal right) (is_variable left) (is_variable right) (expression_spot spot left)
+      (expression_spot spot right) (part 0) (part (need left)) (λ a s. give_cells o into a s))
   given_cells Joins o left right e into =
       around (told_cells (is_truth left) (held_cells left (past (is_truth left) 0)) 0
       ++ told_cells (is_truth right) (held_cells right (past (is_truth right) (told_need left)))
@@ -276,7 +276,7 @@ module _ (spot : List ℕ → Spot) where
   -- the truth value of a value: that of a variable while its word is out
   abbrev pub held_truth_cells : Expression → (into : ℕ) → List Symbol
   held_truth_cells e into = if is_variable e
-      then around (reach_cells (spot_in spot e)) (truth_cells into CONTENT)
+      then around (reach_cells (expression_spot spot e)) (truth_cells into CONTENT)
       else around (held_cells e 0) (truth_cells into (part 0))
 
   -- and of any expression

@@ -28,19 +28,19 @@ kind op.Div = Neither
 kind op.Rem = Neither
 
 -- what these operators give is its own truth
-abbrev pub tells : BinOp → Bool
-tells op.AndAlso = true
-tells op.OrElse = true
-tells op.Less = true
-tells op.Greater = true
-tells op.AtMost = true
-tells op.AtLeast = true
-tells op.Equal = true
-tells op.NotEqual = true
-tells _ = false
+abbrev pub gives_truth : BinOp → Bool
+gives_truth op.AndAlso = true
+gives_truth op.OrElse = true
+gives_truth op.Less = true
+gives_truth op.Greater = true
+gives_truth op.AtMost = true
+gives_truth op.AtLeast = true
+gives_truth op.Equal = true
+gives_truth op.NotEqual = true
+gives_truth _ = false
 
 abbrev pub is_truth : Expression → Bool
-is_truth (Binary at o left right) = tells o
+is_truth (Binary at o left right) = gives_truth o
 is_truth _ = false
 
 -- a value that is no truth value has a register in addition to that of its truth value, and is
@@ -135,11 +135,11 @@ abbrev pub literal_in : Expression → ℕ
 literal_in (Number at word) = word
 literal_in _ = 0
 
-abbrev pub is_zero : Expression → Bool
-is_zero (Number at word) = nat_eq word 0
-is_zero (Null at) = true
-is_zero _ = false
+abbrev pub is_zero_literal : Expression → Bool
+is_zero_literal (Number at word) = nat_eq word 0
+is_zero_literal (Null at) = true
+is_zero_literal _ = false
 
-abbrev pub spot_in : (List ℕ → Spot) → Expression → Spot
-spot_in spot (Variable name) = spot name.text
-spot_in spot _ = Frame 0
+abbrev pub expression_spot : (List ℕ → Spot) → Expression → Spot
+expression_spot spot (Variable name) = spot name.text
+expression_spot spot _ = Frame 0

@@ -4,7 +4,7 @@ use Rattle.std.specs.Prelude.{bit_xor, Result, Ok, Err}
 use Rattle.code_scope.specs.pisa_isa.Machine.{Memory}
 use Rattle.code_scope.specs.code_conventions.declared.registers.TheConstants.{FRAME, OBJECT}
 use Rattle.code_scope.specs.paired_code.declared.part.Symbol.{Symbol}
-use Rattle.code_scope.specs.paired_code.Machine.{Image, reg, with_reg}
+use Rattle.code_scope.specs.paired_code.Machine.{Image, memory_reg, memory_with_reg}
 use Rattle.code_scope.specs.paired_code.Pieces.{Done, Trapped, Runs}
 use Rattle.code_scope.specs.roopl_semantics.Operators.{is_true, truth_word}
 use Rattle.register_expressions.specs.Number.{Bases}
@@ -15,22 +15,22 @@ Temporary r = ((4 < r) × (r < 11)) ⊎ ((15 < r) × (r < 25))
 
 -- the addresses of the current object and of the current frame
 abbrev pub bases_of : Memory → Bases
-bases_of m = record { object = reg m OBJECT; frame = reg m FRAME }
+bases_of m = record { object = memory_reg m OBJECT; frame = memory_reg m FRAME }
 
 -- the temporaries are 0, and so are n words of the frame from word `free` on
 pub record Ready (free n : ℕ) (m : Memory) : Type 0 where
   pub count : length m.regs ≡ 32
-  pub clear : (r : ℕ) → Temporary r → reg m r ≡ 0
+  pub clear : (r : ℕ) → Temporary r → memory_reg m r ≡ 0
   pub small : length m.cells ≤ 2 ^ 31
   pub words : (a : ℕ) → slice_index m.cells a < 2 ^ 32
-  pub inside : reg m FRAME + (free + n) ≤ length m.cells
-  pub empty : (a : ℕ) → reg m FRAME + free ≤ a → a < reg m FRAME + (free + n)
+  pub inside : memory_reg m FRAME + (free + n) ≤ length m.cells
+  pub empty : (a : ℕ) → memory_reg m FRAME + free ≤ a → a < memory_reg m FRAME + (free + n)
       → slice_index m.cells a ≡ 0
 
 -- the result is xored into a register and nothing else differs, or its fault is a trap; the steps
 abbrev pub Xored : (into steps : ℕ) → Memory → Result ℕ ℕ → Image → List Symbol → Bool → Type 0
 Xored into steps m (Ok v) im p d = Runs im p d m
-    (Done (with_reg m into (bit_xor (reg m into) v)) steps)
+    (Done (memory_with_reg m into (bit_xor (memory_reg m into) v)) steps)
 Xored into steps m (Err c) im p d = (k : ℕ) × (k ≤ steps) × Runs im p d m (Trapped c k)
 
 -- the truth value of a result

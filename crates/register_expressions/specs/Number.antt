@@ -17,9 +17,9 @@ pub record Bases : Type 0 where
   pub frame : ℕ
 
 -- the address of a storage slot
-abbrev pub address_of : Bases → Spot → ℕ
-address_of b (Field i) = b.object + (HEADER_WORDS + i)
-address_of b (Frame i) = b.frame + i
+abbrev pub spot_address : Bases → Spot → ℕ
+spot_address b (Field i) = b.object + (HEADER_WORDS + i)
+spot_address b (Frame i) = b.frame + i
 
 -- the address of an element of an array, by its index without sign
 abbrev pub element_address : List ℕ → (array index : ℕ) → Result ℕ ℕ
@@ -35,15 +35,15 @@ abbrev pub word_in : List ℕ → Result ℕ ℕ → Result ℕ ℕ
 word_in cells (Err fault) = Err fault
 word_in cells (Ok address) = Ok (slice_index cells address)
 
-abbrev pub combined : BinOp → Result ℕ ℕ → Result ℕ ℕ → Result ℕ ℕ
-combined op (Err fault) right = Err fault
-combined op (Ok left) (Err fault) = Err fault
-combined op (Ok left) (Ok right) = Ok (operated op left right)
+abbrev pub combined_words : BinOp → Result ℕ ℕ → Result ℕ ℕ → Result ℕ ℕ
+combined_words op (Err fault) right = Err fault
+combined_words op (Ok left) (Err fault) = Err fault
+combined_words op (Ok left) (Ok right) = Ok (operated op left right)
 
 -- a result as a number
-abbrev pub given : Result ℕ ℕ → ℕ
-given (Ok v) = v
-given (Err fault) = 0
+abbrev pub word_given : Result ℕ ℕ → ℕ
+word_given (Ok v) = v
+word_given (Err fault) = 0
 
 -- the index of a place; nil if it is no element
 abbrev pub index_of : Lvalue → Expression
@@ -53,7 +53,7 @@ index_of (Item name index) = index
 module _ (spot : List ℕ → Spot) (b : Bases) where
   -- the word of a variable
   abbrev pub word_of : List ℕ → List ℕ → ℕ
-  word_of cells name = slice_index cells (address_of b (spot name))
+  word_of cells name = slice_index cells (spot_address b (spot name))
 
   -- the number of an expression, or the fault that is met first
   abbrev pub number : List ℕ → Expression → Result ℕ ℕ
@@ -62,11 +62,11 @@ module _ (spot : List ℕ → Spot) (b : Bases) where
   number cells (Variable name) = Ok (word_of cells name.text)
   number cells (Element name index) =
       word_in cells (element_at cells (word_of cells name.text) (number cells index))
-  number cells (Binary at op left right) = combined op (number cells left) (number cells right)
+  number cells (Binary at op left right) = combined_words op (number cells left) (number cells right)
 
   -- the address of a place, or the fault that is met first
   abbrev pub place_address : List ℕ → Lvalue → Result ℕ ℕ
-  place_address cells (Whole name) = Ok (address_of b (spot name.text))
+  place_address cells (Whole name) = Ok (spot_address b (spot name.text))
   place_address cells (Item name index) = element_at cells (word_of cells name.text)
       (number cells index)
 
@@ -106,9 +106,9 @@ module _ (spot : List ℕ → Spot) (b : Bases) where
   abbrev pub Sees : ℕ → List ℕ → Expression → Type 0
   Sees low cells (Number at word) = word < 2 ^ 32
   Sees low cells (Null at) = Unit {0}
-  Sees low cells (Variable name) = address_of b (spot name.text) < low
+  Sees low cells (Variable name) = spot_address b (spot name.text) < low
   Sees low cells (Element name index) =
-      (address_of b (spot name.text) < low) × IsArray low cells (word_of cells name.text)
+      (spot_address b (spot name.text) < low) × IsArray low cells (word_of cells name.text)
       × Sees low cells index
   Sees low cells (Binary at op left right) = Sees low cells left × Sees low cells right
 

@@ -6,7 +6,7 @@ use Rattle.rpp_tree.specs.Tree.{Expression, Number, Null, Variable, Element, Bin
 use Rattle.register_expressions.specs.declared.held.Kind.{Kind}
 use Rattle.register_expressions.specs.declared.held.Kind.TheVariants.{Changes, Gives, Joins}
 use Rattle.register_expressions.specs.declared.held.Kind.TheVariants.{Neither}
-use Rattle.register_expressions.specs.Held.{kind, is_variable, is_literal, is_zero, is_truth}
+use Rattle.register_expressions.specs.Held.{kind, is_variable, is_literal, is_zero_literal, is_truth}
 
 abbrev pub operator_steps : BinOp → ℕ
 operator_steps op.Add = 1
@@ -52,8 +52,8 @@ operated_steps Changes o left right w v = before_steps (is_literal right) false 
     + (if is_literal right then 1 else core_steps false false (is_variable right)
     (operator_steps o))
 operated_steps Gives o left right w v =
-    before_steps (is_zero right) (is_variable left) (is_variable right) w v
-    + core_steps (is_zero right) (is_variable left) (is_variable right) (operator_steps o)
+    before_steps (is_zero_literal right) (is_variable left) (is_variable right) w v
+    + core_steps (is_zero_literal right) (is_variable left) (is_variable right) (operator_steps o)
 operated_steps Joins o left right w v =
     (told_steps (is_truth left) w + told_steps (is_truth right) v) + 1
 operated_steps Neither o left right w v = 0
@@ -72,9 +72,9 @@ held_steps (Binary at o left right) =
 
 abbrev pub given_steps : Kind → BinOp → (left right : Expression) → (opened : ℕ) → ℕ
 given_steps Gives o left right opened =
-    around_steps (before_steps (is_zero right) (is_variable left) (is_variable right)
+    around_steps (before_steps (is_zero_literal right) (is_variable left) (is_variable right)
     (held_steps left) (held_steps right))
-    (core_steps (is_zero right) (is_variable left) (is_variable right) (operator_steps o))
+    (core_steps (is_zero_literal right) (is_variable left) (is_variable right) (operator_steps o))
 given_steps Joins o left right opened = around_steps (told_steps (is_truth left) (held_steps left)
     + told_steps (is_truth right) (held_steps right)) 1
 given_steps _ o left right opened = around_steps opened 1
@@ -93,9 +93,9 @@ abbrev pub held_test_steps : Expression → ℕ
 held_test_steps e = if is_truth e then held_value_steps e else held_truth_steps e
 
 -- the least number of tokens that an expression has: no parentheses round operands
-abbrev pub tokens : Expression → ℕ
-tokens (Number at word) = 1
-tokens (Null at) = 1
-tokens (Variable name) = 1
-tokens (Element name index) = 3 + tokens index
-tokens (Binary at op left right) = 1 + (tokens left + tokens right)
+abbrev pub token_count : Expression → ℕ
+token_count (Number at word) = 1
+token_count (Null at) = 1
+token_count (Variable name) = 1
+token_count (Element name index) = 3 + token_count index
+token_count (Binary at op left right) = 1 + (token_count left + token_count right)

@@ -3,7 +3,7 @@ ghost use Rattle.std.specs.Prelude.{◌≡◌, ◌≢◌, ◌<◌, ◌≤◌, �
 ghost use Rattle.rpp_tree.specs.Views.{expression_of, lvalue_of};
 ghost use Rattle.code_scope.specs.paired_code.Code.{unmarked};
 ghost use Rattle.register_expressions.specs.Code.{Target, words as words_of, sltx as sltx_cell, xor as xor_cell, xori as xori_cell, exch as exch_cell, around, reach_cells, copy_cells, nil_check_of, index_check_of, point_of, part as part_of, before, core, told_cells, element_cells, operands_cells, core_cells, change_cells, literal_cells, give_cells, held_cells, given_cells, held_value_cells, held_truth_cells, held_test_cells};
-ghost use Rattle.register_expressions.specs.Held.{kind as kind_of, own as own_of, beside as beside_of, past as past_of, need as need_of, told_need as told_need_of, left_at as left_place, right_at as right_place, has_parts as parts_in, is_held as held_of, has_element as element_in, is_opened_once as opened_once, is_near as near_of, is_near_index as near_index, is_variable as variable_of, is_literal as literal_is, literal_in, is_zero as zero_is, spot_in, tells as tells_of, is_truth as truth_is};
+ghost use Rattle.register_expressions.specs.Held.{kind as kind_of, own as own_of, beside as beside_of, past as past_of, need as need_of, told_need as told_need_of, left_at as left_place, right_at as right_place, has_parts as parts_in, is_held as held_of, has_element as element_in, is_opened_once as opened_once, is_near as near_of, is_near_index as near_index, is_variable as variable_of, is_literal as literal_is, literal_in, is_zero_literal as zero_is, expression_spot, gives_truth as tells_of, is_truth as truth_is};
 ghost use Rattle.register_expressions.specs.Number.{lvalue_read};
 ghost use Rattle.code_scope.specs.Visible.{spot_of as spot_of_name, known_by, offset_of};
 
@@ -299,7 +299,7 @@ fn is_zero(e: &Expr) -> bool
 }
 
 fn spot(names: &Names, e: &Expr) -> Spot
-    ensures value { result ≡ spot_in (spot_of_name (known_by names.now)) (expression_of e.now) }
+    ensures value { result ≡ expression_spot (spot_of_name (known_by names.now)) (expression_of e.now) }
     ensures small { offset_of result < 2 ^ 32 }
 {
     match e {
@@ -415,8 +415,8 @@ fn changed_core(
         p ≡ unmarked (if literal_is (expression_of right.now)
         then literal_cells op (part_of k) (literal_in (expression_of right.now))
         else core false false (variable_of (expression_of right.now))
-        (spot_in (spot_of_name (known_by names.now)) (expression_of left.now))
-        (spot_in (spot_of_name (known_by names.now)) (expression_of right.now)) (part_of k)
+        (expression_spot (spot_of_name (known_by names.now)) (expression_of left.now))
+        (expression_spot (spot_of_name (known_by names.now)) (expression_of right.now)) (part_of k)
         (part_of (k + need_of (expression_of left.now))) (λ a s. change_cells op a s))) }
 {
     if is_literal(right) {
@@ -445,7 +445,7 @@ fn given_zero(
     requires not_nought { at.into ≢ NOUGHT }
     ensures { IfOk result (λ p.
         p ≡ unmarked (if variable_of (expression_of left.now) then
-        around (reach_cells (spot_in (spot_of_name (known_by names.now)) (expression_of left.now)))
+        around (reach_cells (expression_spot (spot_of_name (known_by names.now)) (expression_of left.now)))
         (give_cells op at.into CONTENT NOUGHT) else give_cells op at.into (part_of at.k) NOUGHT)) }
 {
     if is_variable(left) {
@@ -472,8 +472,8 @@ fn given_core(
     ensures { IfOk result (λ p.
         p ≡ unmarked (core (zero_is (expression_of right.now))
         (variable_of (expression_of left.now)) (variable_of (expression_of right.now))
-        (spot_in (spot_of_name (known_by names.now)) (expression_of left.now))
-        (spot_in (spot_of_name (known_by names.now)) (expression_of right.now)) (part_of at.k)
+        (expression_spot (spot_of_name (known_by names.now)) (expression_of left.now))
+        (expression_spot (spot_of_name (known_by names.now)) (expression_of right.now)) (part_of at.k)
         (part_of (at.k + need_of (expression_of left.now)))
         (λ a s. give_cells op at.into a s))) }
 {
@@ -821,8 +821,8 @@ fn given(
         (need_of (expression_of left.now)))) (core (zero_is (expression_of right.now))
         (variable_of (expression_of left.now))
         (variable_of (expression_of right.now))
-        (spot_in (spot_of_name (known_by names.now)) (expression_of left.now))
-        (spot_in (spot_of_name (known_by names.now)) (expression_of right.now)) (part_of 0)
+        (expression_spot (spot_of_name (known_by names.now)) (expression_of left.now))
+        (expression_spot (spot_of_name (known_by names.now)) (expression_of right.now)) (part_of 0)
         (part_of (need_of (expression_of left.now))) (λ a s. give_cells op into a s)))) }
 {
     let first = held(alloc, names, left, 0)?;

@@ -3,7 +3,7 @@ ghost use Rattle.std.specs.Prelude.{◌≡◌, Bool};
 ghost use Rattle.rpp_tree.specs.Views.{expression_of, lvalue_of};
 ghost use Rattle.reversible_types.specs.Verdicts.{verdict_of};
 ghost use Rattle.reversible_types.specs.ScopeView.{typing_of, locals_of};
-ghost use Rattle.class_table.specs.class_rules.Expressions.{is_int, element_kind, are_related, compares, is_comparison, is_refused, operands_fit, first_token as token_of, variable_type, element_of, operator_type, type_of, place_type, occurs, occurs_in_index};
+ghost use Rattle.class_table.specs.class_rules.Expressions.{is_int, element_kind, are_related, compares, is_comparison, is_refused, operands_fit, first_token as token_of, variable_type, element_kind_of, operator_type, type_of, place_type, occurs, occurs_in_index};
 
 use crate::error::TypeError;
 use crate::scope::{Locals, Typing, kind_of_name};
@@ -22,7 +22,7 @@ pub fn holds_int(kind: Kind) -> bool
 }
 
 fn element(name: &Ident, array: Kind) -> Result<Kind, TypeError>
-    ensures { verdict_of result ≡ element_of name.now array }
+    ensures { verdict_of result ≡ element_kind_of name.now array }
 {
     match array {
         Kind::IntArray => Ok(Kind::Int),

@@ -8,7 +8,7 @@ use Rattle.roopl_lexer.proofs.Order.{readable}
 use Rattle.token_limits.proofs.roopl_parser_laws.Exact.{kept}
 use Rattle.token_limits.proofs.roopl_parser_laws.Parts.{small_tokens, within_limits}
 use Rattle.token_limits.specs.roopl_parser.Viable.{first_limit as limit_read}
-use Rattle.token_limits.specs.Limits.{first_limit}
+use Rattle.token_limits.specs.Limits.{count_first_limit}
 use Rattle.token_limits.proofs.Limited.{derived_limit, none_by}
 use Rattle.class_table.specs.class_rules.Program.{IsAccepted}
 use Rattle.roopl_judge.specs.Judged.{HasTree, IsJudged, accepted}
@@ -16,7 +16,7 @@ use Rattle.roopl_judge.specs.Judged.{HasTree, IsJudged, accepted}
 tree_within : (text : List ℕ) (tokens : List Token) (program : Source) → length text ≤ MOST_BYTES
     → HasTree text tokens program → IsWithinLimits program
 tree_within text tokens program short has =
-    let limits = kept tokens program has.derives (none_by (limit_read tokens) (first_limit tokens tokens)
+    let limits = kept tokens program has.derives (none_by (limit_read tokens) (count_first_limit tokens tokens)
     (derived_limit tokens program has.derives) has.no_limit) in
     let are = readable text tokens None short has.cutting in
     within_limits tokens program (length text) has.derives limits.1 limits.0

@@ -9,7 +9,7 @@ use Rattle.roopl_lexer.specs.Tokens.{IsCutting, IsFirstRefusal, lex_refusal}
 use Rattle.token_limits.specs.roopl_parser.declared.error.ParseError.{ParseError}
 use Rattle.token_limits.specs.roopl_parser.Viable.{IsWrongAt}
 use Rattle.token_limits.specs.roopl_parser.Viable.{first_limit as limit_read}
-use Rattle.token_limits.specs.Limits.{first_limit}
+use Rattle.token_limits.specs.Limits.{count_first_limit}
 use Rattle.token_limits.proofs.Limited.{wrong_limit, limit_begun, none_for}
 use Rattle.class_table.specs.class_rules.declared.error.ClassError.{ClassError}
 use Rattle.class_table.specs.class_rules.Rules.{IsFirst}
@@ -41,7 +41,7 @@ pub by_parser : (text : List ℕ) (tokens : List Token) (error : ParseError) →
 by_parser text tokens (parse.Syntax at) cutting syntax limit =
     let found = syntax at refl in
     wrong_token tokens at cutting found.0
-    (none_for (limit_read tokens) (first_limit tokens found.0.front) (wrong_limit (length text) tokens at found.0)
+    (none_for (limit_read tokens) (count_first_limit tokens found.0.front) (wrong_limit (length text) tokens at found.0)
     found.1)
 by_parser text tokens (parse.Limit which at) cutting syntax limit =
     let found = limit_begun tokens which at (limit which at refl) in

@@ -10,12 +10,12 @@ use Rattle.token_limits.specs.roopl_parser.declared.error.ParseError.TheVariants
 use Rattle.token_limits.specs.roopl_parser.Grammar.{Derives}
 use Rattle.token_limits.specs.roopl_parser.Viable.{reading}
 use Rattle.token_limits.specs.roopl_parser.Viable.{first_limit as limit_read}
-use Rattle.token_limits.specs.Limits.{first_limit}
+use Rattle.token_limits.specs.Limits.{count_first_limit}
 use Rattle.token_limits.proofs.Limited.{derived_limit, wrong_limit, begun_limit, none_by}
 use Rattle.token_limits.proofs.roopl_parser_laws.Exact.{one_tree, read_all, wrong_read, passed_read}
 use Rattle.class_table.specs.class_rules.Program.{check_program}
 use Rattle.class_table.specs.class_rules.Refusal.{Refusal, refused}
-use Rattle.class_table.specs.class_rules.Statements.{passed}
+use Rattle.class_table.specs.class_rules.Statements.{verdict_passed}
 use Rattle.class_table.specs.class_rules.Table.{HasClassTable, first_class_refusal}
 use Rattle.roopl_judge.specs.Judged.{HasTree, IsJudged, not_cut, wrong_token, limit_passed}
 use Rattle.roopl_judge.specs.Judged.{no_table, no_types, accepted}
@@ -33,7 +33,7 @@ data OfTable (text : List ℕ) (program : Source) : Result Source Refusal → Ty
       → OfTable text program (Err refusal)
   types_refused : (refusal : Refusal) → HasClassTable program → check_program program ≡ Err refusal
       → OfTable text program (Err refusal)
-  taken : HasClassTable program → check_program program ≡ passed → OfTable text program (Ok program)
+  taken : HasClassTable program → check_program program ≡ verdict_passed → OfTable text program (Ok program)
 
 some_same : {A : Type 0} (a b : A) → Some a ≡ Some b → a ≡ b
 some_same a b e = cc
@@ -107,13 +107,13 @@ one_of_text text a b (cut ts _ c of) (cut ts' _ c' of') =
 passes_none : (text : List ℕ) (tokens : List Token) (program : Source) → HasTree text tokens program
     → limit_read tokens ≡ None
 passes_none text tokens program has =
-    none_by (limit_read tokens) (first_limit tokens tokens) (derived_limit tokens program has.derives) has.no_limit
+    none_by (limit_read tokens) (count_first_limit tokens tokens) (derived_limit tokens program has.derives) has.no_limit
 
 layered : (text : List ℕ) (a : Result Source Refusal) → IsJudged text a → OfText text a
 layered text _ (not_cut tokens refusal c) = tokens_refused tokens refusal c
 layered text _ (wrong_token tokens at cutting wrong none) =
     cut tokens (Err (refused 3 at)) cutting (tree_refused (refused 3 at) (as_wrong at
-    (wrong_read (length text) tokens at wrong (none_by (limit_read tokens) (first_limit tokens wrong.front)
+    (wrong_read (length text) tokens at wrong (none_by (limit_read tokens) (count_first_limit tokens wrong.front)
     (wrong_limit (length text) tokens at wrong) none))))
 layered text _ (limit_passed tokens at cutting begun full) =
     let read = begun_limit tokens begun at full in

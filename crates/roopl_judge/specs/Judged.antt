@@ -6,17 +6,17 @@ use Rattle.roopl_lexer.specs.declared.token.Token.{Token}
 use Rattle.roopl_lexer.specs.Tokens.{Cut}
 use Rattle.token_limits.specs.roopl_parser.Grammar.{Derives}
 use Rattle.token_limits.specs.roopl_parser.Viable.{IsWrongAt}
-use Rattle.token_limits.specs.Limits.{Begins, first_limit}
+use Rattle.token_limits.specs.Limits.{Begins, count_first_limit}
 use Rattle.class_table.specs.class_rules.Program.{check_program}
 use Rattle.class_table.specs.class_rules.Refusal.{Refusal, refused}
-use Rattle.class_table.specs.class_rules.Statements.{passed}
+use Rattle.class_table.specs.class_rules.Statements.{verdict_passed}
 use Rattle.class_table.specs.class_rules.Table.{HasClassTable, first_class_refusal}
 
 -- the syntax tree of a text within the limits
 pub record HasTree (text : List ℕ) (tokens : List Token) (program : Source) : Type 0 where
   pub cutting : Cut 0 text tokens None
   pub derives : Derives tokens program
-  pub no_limit : first_limit tokens tokens ≡ None
+  pub no_limit : count_first_limit tokens tokens ≡ None
 
 -- a text's syntax tree, whatever its tokens are, with the limits that it keeps
 pub record IsTree (text : List ℕ) (program : Source) : Type 0 where
@@ -32,12 +32,12 @@ pub data IsJudged (text : List ℕ) : Result Source Refusal → Type 0 where
   wrong_token : (tokens : List Token) (at : ℕ)
       → Cut 0 text tokens None
       → (wrong : IsWrongAt (length text) tokens at)
-      → first_limit tokens wrong.front ≡ None
+      → count_first_limit tokens wrong.front ≡ None
       → IsJudged text (Err (refused 3 at))
   limit_passed : (tokens : List Token) (at : ℕ)
       → Cut 0 text tokens None
       → (begun : Begins tokens)
-      → first_limit tokens begun.front ≡ Some at
+      → count_first_limit tokens begun.front ≡ Some at
       → IsJudged text (Err (refused 4 at))
   no_table : (tokens : List Token) (program : Source) (refusal : Refusal)
       → HasTree text tokens program
@@ -51,5 +51,5 @@ pub data IsJudged (text : List ℕ) : Result Source Refusal → Type 0 where
   accepted : (tokens : List Token) (program : Source)
       → HasTree text tokens program
       → HasClassTable program
-      → check_program program ≡ passed
+      → check_program program ≡ verdict_passed
       → IsJudged text (Ok program)

@@ -12,7 +12,7 @@ use Rattle.roopl_lexer.specs.declared.token.TokenKind.TheVariants.{Word, Name, N
 use Rattle.rpp_tree.specs.Refusal.{Refusal}
 use Rattle.roopl_lexer.specs.Tokens.{is_white, comment_length, Spells, Cut, finish, white, comment, token, bad_byte}
 use Rattle.roopl_lexer.specs.Tokens.{too_large}
-use Rattle.roopl_lexer.specs.Readable.{IsNamed, name_length, AreReadable, AreInOrder}
+use Rattle.roopl_lexer.specs.Readable.{IsNameToken, name_length, AreReadable, AreInOrder}
 use Rattle.roopl_lexer.proofs.Unique.{longest_some}
 
 -- a tokenization may begin further ahead
@@ -77,7 +77,7 @@ below_each start end most (first ∷ tokens) small ordered =
     let after = before_end (first.at + first.len) end tokens ordered.2 in
     (omega (arith, ordered.1), below_each (first.at + first.len) end most tokens small ordered.2)
 
-spelled_named : (kind : TokenKind) (bytes : List ℕ) → Spells kind bytes → IsNamed kind
+spelled_named : (kind : TokenKind) (bytes : List ℕ) → Spells kind bytes → IsNameToken kind
 spelled_named (Word keyword) bytes spelled = tt
 spelled_named (Name text) bytes spelled = spelled.1
 spelled_named (Number n) bytes spelled = tt
@@ -90,7 +90,7 @@ spelled_length (Number n) bytes spelled = omega arith
 spelled_length (Sign sign) bytes spelled = omega arith
 
 names_each : (at : ℕ) (rest : List ℕ) (tokens : List Token) (refusal : Option Refusal) → Cut at rest tokens refusal
-    → AllByRecursion (λ found. IsNamed found.kind) tokens
+    → AllByRecursion (λ found. IsNameToken found.kind) tokens
 names_each _ _ _ _ (finish at) = tt
 names_each _ _ _ _ (white at rest tokens refusal blank cut) = names_each (at + 1) (drop 1 rest) tokens refusal cut
 names_each _ _ _ _ (comment at rest tokens refusal starts cut) =
@@ -132,6 +132,6 @@ readable text tokens refusal small cut = record {
   places = All-from_recursion (λ found. found.at < MOST_BYTES) tokens
       (below_each 0 (length text) MOST_BYTES tokens small (subst (λ end. AreInOrder 0 tokens end)
       (zero-add (length text)) (in_order 0 text tokens refusal cut)));
-  names = All-from_recursion (λ found. IsNamed found.kind) tokens (names_each 0 text tokens refusal cut);
+  names = All-from_recursion (λ found. IsNameToken found.kind) tokens (names_each 0 text tokens refusal cut);
   name_bytes = let sum = name_sum 0 text tokens refusal cut in omega arith;
 }

@@ -7,11 +7,11 @@ use Rattle.roopl_lexer.specs.declared.token.TokenKind.{TokenKind}
 use Rattle.roopl_lexer.specs.declared.token.TokenKind.TheVariants.{Word, Name, Number, Sign}
 
 -- a name is one by the rule, and no keyword
-abbrev pub IsNamed : TokenKind → Type 0
-IsNamed (Word keyword) = Unit {0}
-IsNamed (Name text) = IsName text
-IsNamed (Number n) = Unit {0}
-IsNamed (Sign sign) = Unit {0}
+abbrev pub IsNameToken : TokenKind → Type 0
+IsNameToken (Word keyword) = Unit {0}
+IsNameToken (Name text) = IsName text
+IsNameToken (Number n) = Unit {0}
+IsNameToken (Sign sign) = Unit {0}
 
 -- the bytes of a name
 abbrev pub name_length : TokenKind → ℕ
@@ -23,7 +23,7 @@ name_length (Sign sign) = 0
 -- tokens with places and names as a source text has them
 pub record AreReadable (tokens : List Token) : Type 0 where
   pub places : All (λ token. token.at < MOST_BYTES) tokens
-  pub names : All (λ token. IsNamed token.kind) tokens
+  pub names : All (λ token. IsNameToken token.kind) tokens
   pub name_bytes : sum_by (λ token. name_length token.kind) tokens ≤ MOST_BYTES
 
 -- each token has bytes and comes after the one before, between two offsets

@@ -13,10 +13,10 @@ use Rattle.roopl_lexer.specs.declared.token.Token.{Token}
 use Rattle.roopl_parser.specs.declared.error.ParseError.{ParseError}
 use Rattle.roopl_parser.specs.declared.error.ParseError.TheVariants.{Syntax, Limit, NoMemory}
 use Rattle.roopl_parser.specs.Grammar.{Derives}
-use Rattle.roopl_parser.specs.Readable.{AreSmall, IsReadable}
-use Rattle.roopl_parser.specs.Reader.{Value, Classes, Program as AProgram, scan}
+use Rattle.roopl_parser.specs.Readable.{AreSmallTokens, IsReadable}
+use Rattle.roopl_parser.specs.Reader.{ParsedValue, Classes, Program as AProgram, scan}
 use Rattle.rpp_tree.specs.declared.limits.TheConstants.{MOST_TOKENS}
-use Rattle.roopl_parser.specs.Viable.{IsWrongAt, IsReached, first_limit, place_of, unless, reading}
+use Rattle.roopl_parser.specs.Viable.{IsWrongAt, IsTokenReached, first_limit, offset_at, unless, reading}
 use Rattle.roopl_parser.proofs.Exact.{read_tree, read_syntax, read_limit, read_all, kept, wrong_read, passed_read}
 use Rattle.roopl_parser.proofs.Parts.{within_limits}
 
@@ -32,14 +32,14 @@ tree end tokens (Err e) h = tt
 
 -- the place of a token is that of the tokens from it on
 token_place : (n : ℕ) (tokens : List Token) (token : Token) → n < length tokens
-    → place_of 0 (drop n tokens) ≡ (slice_index_or tokens n token).at
-token_place n tokens token h = ap (place_of 0) (drop-cons tokens n token h)
+    → offset_at 0 (drop n tokens) ≡ (slice_index_or tokens n token).at
+token_place n tokens token h = ap (offset_at 0) (drop-cons tokens n token h)
 
 too_many_at : (n : ℕ) (tokens : List Token) (token : Token) → n < length tokens
-    → cond (nat_lt n (length tokens)) (Some (Limit Tokens (place_of 0 (drop n tokens)))) None
+    → cond (nat_lt n (length tokens)) (Some (Limit Tokens (offset_at 0 (drop n tokens)))) None
     ≡ Some (Limit Tokens (slice_index_or tokens n token).at)
 too_many_at n tokens token h =
-    ap (λ b. cond b (Some (Limit Tokens (place_of 0 (drop n tokens)))) None) (lt-ltb n (length tokens) h)
+    ap (λ b. cond b (Some (Limit Tokens (offset_at 0 (drop n tokens)))) None) (lt-ltb n (length tokens) h)
     ∙ ap (λ at. Some (Limit Tokens at)) (token_place n tokens token h)
 
 -- more tokens than a text may have
@@ -48,7 +48,7 @@ pub many_tokens : (end : ℕ) (tokens : List Token) (token : Token) → MOST_TOK
 many_tokens end tokens token h = ap (λ o. unless o (scan true end tokens 0 (AProgram 0 ∷ []) (Classes [] ∷ [])))
     (too_many_at MOST_TOKENS tokens token h)
 
-limits_of : (end : ℕ) (tokens : List Token) (x : Source) → IsReadable tokens end → AreSmall tokens
+limits_of : (end : ℕ) (tokens : List Token) (x : Source) → IsReadable tokens end → AreSmallTokens tokens
     → reading end tokens ≡ Ok (Classes x.classes) → IsWithinLimits x
 limits_of end tokens x readable numbers h =
     let t = read_tree end tokens x h in
@@ -56,7 +56,7 @@ limits_of end tokens x readable numbers h =
     within_limits tokens x end t.0 k.1 k.0 readable numbers
 
 pub limits : (end : ℕ) (tokens : List Token) (r : Result Program ParseError) → IsReadable tokens end
-    → Reads end tokens r → AreSmall tokens → IfOk r (λ b. IsWithinLimits (source_of b))
+    → Reads end tokens r → AreSmallTokens tokens → IfOk r (λ b. IsWithinLimits (source_of b))
 limits end tokens (Ok b) readable h numbers = limits_of end tokens (source_of b) readable numbers h
 limits end tokens (Err e) readable h numbers = tt
 
@@ -67,7 +67,7 @@ one_tree end tokens x y g h =
     let P : List ClassText → Source = λ c. record { classes = c } in
     ap P same
 
-no_memory : (end : ℕ) (tokens : List Token) (q : Value) (e : ParseError) → reading end tokens ≡ Ok q
+no_memory : (end : ℕ) (tokens : List Token) (q : ParsedValue) (e : ParseError) → reading end tokens ≡ Ok q
     → (e ≢ NoMemory → reading end tokens ≡ Err e) → e ≡ NoMemory
 no_memory end tokens q (Syntax at) g h = let k = h (λ m. cc) in cc
 no_memory end tokens q (Limit which at) g h = let k = h (λ m. cc) in cc
@@ -89,7 +89,7 @@ syntax end tokens r h at e = read_syntax end tokens at (known end tokens (Syntax
 
 pub limit : (end : ℕ) (tokens : List Token) (r : Result Program ParseError) → Reads end tokens r
     → (which : LimitKind) (at : ℕ) → r ≡ Err (Limit which at)
-    → (first_limit tokens ≡ Some (Limit which at)) × (which ≢ Tokens → IsReached tokens at)
+    → (first_limit tokens ≡ Some (Limit which at)) × (which ≢ Tokens → IsTokenReached tokens at)
 limit end tokens r h which at e = read_limit end tokens which at
     (known end tokens (Limit which at) NoMemory r h e (λ k. cc))
 

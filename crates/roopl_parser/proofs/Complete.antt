@@ -40,7 +40,7 @@ use Rattle.roopl_parser.specs.Grammar.{IsStatements, end as finish, then, IsMore
 use Rattle.roopl_parser.specs.Grammar.{IsParams, no_param, params as some_params, IsMethod, method, IsMethods}
 use Rattle.roopl_parser.specs.Grammar.{no_method, methods, IsFields, no_field, field, IsParent, alone, inherits}
 use Rattle.roopl_parser.specs.Grammar.{IsClass, class, IsClasses, no_class, classes}
-use Rattle.roopl_parser.specs.Reader.{Value, Part, Mark, Within, AnExpr, AnIdent, Idents, APlace, AType, AVar, Vars}
+use Rattle.roopl_parser.specs.Reader.{ParsedValue, Part, Mark, Within, AnExpr, AnIdent, Idents, APlace, AType, AVar, Vars}
 use Rattle.roopl_parser.specs.Reader.{ACreation, AStatement, Many, ABlock, AParent, Methods, Classes, AWord, ASign}
 use Rattle.roopl_parser.specs.Reader.{AName, Level, More, Index, Spot, Kind, Brackets, Made, Sized, Single, Block}
 use Rattle.roopl_parser.specs.Reader.{Stmts, Assign, Branches, Scope, Receiver, Args, MoreArgs, Params, Param}
@@ -64,7 +64,7 @@ use Rattle.roopl_parser.proofs.Moves.{run_procedures_end, run_program_end}
 
 -- ---- limits that are kept
 
-pub stops : (strict : Bool) (at : ℕ) (bracket : Bool) (mark : Mark) (next : Result Value ParseError)
+pub stops : (strict : Bool) (at : ℕ) (bracket : Bool) (mark : Mark) (next : Result ParsedValue ParseError)
     → (IsTrue strict → passed mark bracket ≡ None) → cond strict (stopped at (passed mark bracket) next) next ≡ next
 stops true at bracket mark next h = let e : passed mark bracket ≡ None = h refl in rw e refl
 stops false at bracket mark next h = refl
@@ -278,32 +278,32 @@ method_begins (method p b) = refl
 module _ (strict : Bool) (end : ℕ) where
   -- ---- single tokens
 
-  pub read_word : (a : Span) (w : Keyword) (ts : List Token) (n : ℕ) (s : List Part) (vs : List Value)
+  pub read_word : (a : Span) (w : Keyword) (ts : List Token) (n : ℕ) (s : List Part) (vs : List ParsedValue)
       → scan strict end (tok a (Word w) ∷ ts) n (AWord w ∷ s) vs ≡ scan strict end ts n s vs
   unfolding scan walk
   read_word a w ts n s vs = rw (word_is w) (stops strict a.at (here (is_sign sign.LeftBracket) ts) Within
       (scan strict end ts n s vs) (λ t. refl))
 
-  pub read_sign : (a : Span) (w : Symbol) (ts : List Token) (n : ℕ) (s : List Part) (vs : List Value)
+  pub read_sign : (a : Span) (w : Symbol) (ts : List Token) (n : ℕ) (s : List Part) (vs : List ParsedValue)
       → scan strict end (tok a (Sign w) ∷ ts) n (ASign w ∷ s) vs ≡ scan strict end ts n s vs
   unfolding scan walk
   read_sign a w ts n s vs = rw (sign_is w) (stops strict a.at (here (is_sign sign.LeftBracket) ts) Within
       (scan strict end ts n s vs) (λ t. refl))
 
-  pub read_name : (a : Span) (x : List ℕ) (ts : List Token) (n : ℕ) (s : List Part) (vs : List Value)
+  pub read_name : (a : Span) (x : List ℕ) (ts : List Token) (n : ℕ) (s : List Part) (vs : List ParsedValue)
       → scan strict end (tok a (Name x) ∷ ts) n (AName ∷ s) vs ≡ scan strict end ts n s (AnIdent (ident a x) ∷ vs)
   unfolding scan walk
   read_name a x ts n s vs = stops strict a.at (here (is_sign sign.LeftBracket) ts) Within
       (scan strict end ts n s (AnIdent (ident a x) ∷ vs)) (λ t. refl)
 
-  skip_more : (ts : List Token) (n k p i : ℕ) (s : List Part) (vs : List Value) → Below (suc k) ts
+  skip_more : (ts : List Token) (n k p i : ℕ) (s : List Part) (vs : List ParsedValue) → Below (suc k) ts
       → scan strict end ts n (More k p i ∷ s) vs ≡ scan strict end ts n s vs
   unfolding scan walk ends
   skip_more [] n k p i s vs b = refl
   skip_more (t ∷ ts) n k p i s vs b = ap (λ o. led strict t.at (here (is_sign sign.LeftBracket) ts) (scan strict end ts)
       (more k p i s n vs t.at (walk s n vs t) o)) (b.1 k (omega arith))
 
-  skip_tail : (ts : List Token) (n k p i : ℕ) (s : List Part) (vs : List Value) → Below (suc k) ts
+  skip_tail : (ts : List Token) (n k p i : ℕ) (s : List Part) (vs : List ParsedValue) → Below (suc k) ts
       → scan strict end ts n (tail_at k p i s) vs ≡ scan strict end ts n s vs
   skip_tail ts n zero p i s vs b = refl
   skip_tail ts n (suc k) p i s vs b = skip_more ts n (suc k) p i s vs b
@@ -315,7 +315,7 @@ module _ (strict : Bool) (end : ℕ) where
 
     pub expr_reads : {k : ℕ} {ts rest : List Token} {e : Expression} (d : IsExpr k ts rest e) (p i n : ℕ)
         → (IsTrue strict → p + parens_of d ≤ MOST_PARENS) → (IsTrue strict → n + nodes e ≤ MOST_NODES)
-        → (IsTrue strict → i + index_depth e ≤ MOST_INDEX_DEPTH) → Below k rest → (s : List Part) (vs : List Value)
+        → (IsTrue strict → i + index_depth e ≤ MOST_INDEX_DEPTH) → Below k rest → (s : List Part) (vs : List ParsedValue)
         → scan strict end ts n (Level k p i ∷ s) vs ≡ scan strict end rest (n + nodes e) (tail_at k p i s)
         (AnExpr e ∷ vs)
     expr_reads (number {a} {w} {rest}) p i n f g h b s vs =
@@ -375,7 +375,7 @@ module _ (strict : Bool) (end : ℕ) where
   -- an expression, and no operator after it
   pub value_reads : {ts rest : List Token} {e : Expression} (d : IsExpr 9 ts rest e) (p i n : ℕ)
       → (IsTrue strict → p + parens_of d ≤ MOST_PARENS) → (IsTrue strict → n + nodes e ≤ MOST_NODES)
-      → (IsTrue strict → i + index_depth e ≤ MOST_INDEX_DEPTH) → Below 10 rest → (s : List Part) (vs : List Value)
+      → (IsTrue strict → i + index_depth e ≤ MOST_INDEX_DEPTH) → Below 10 rest → (s : List Part) (vs : List ParsedValue)
       → scan strict end ts n (Level 9 p i ∷ s) vs ≡ scan strict end rest (n + nodes e) s (AnExpr e ∷ vs)
   value_reads {rest} {e} d p i n f g h b s vs = expr_reads d p i n f g h (below_less 9 10 rest (omega arith) b) s vs
       ∙ skip_more rest (n + nodes e) 9 p i s (AnExpr e ∷ vs) b
@@ -383,7 +383,7 @@ module _ (strict : Bool) (end : ℕ) where
   pub indexed_reads : {name : Ident} {ts rest : List Token} {l : Lvalue} (x : IsIndexed name ts rest l) (p i n : ℕ)
       → (IsTrue strict → p + index_parens x ≤ MOST_PARENS) → (IsTrue strict → n + index_nodes l ≤ MOST_NODES)
       → (IsTrue strict → i + lvalue_index_depth l ≤ MOST_INDEX_DEPTH) → here (is_sign sign.LeftBracket) rest ≡ false
-      → (s : List Part) (vs : List Value) → scan strict end ts n (Index p i ∷ s) (AnIdent name ∷ vs)
+      → (s : List Part) (vs : List ParsedValue) → scan strict end ts n (Index p i ∷ s) (AnIdent name ∷ vs)
       ≡ scan strict end rest (n + index_nodes l) s (APlace l ∷ vs)
   unfolding scan walk ends
   indexed_reads (whole {name} {rest}) p i n f g h b s vs =
@@ -400,7 +400,7 @@ module _ (strict : Bool) (end : ℕ) where
   pub place_reads : {ts rest : List Token} {l : Lvalue} (x : IsPlace ts rest l) (n : ℕ)
       → (IsTrue strict → place_parens x ≤ MOST_PARENS) → (IsTrue strict → n + index_nodes l ≤ MOST_NODES)
       → (IsTrue strict → lvalue_index_depth l ≤ MOST_INDEX_DEPTH) → here (is_sign sign.LeftBracket) rest ≡ false
-      → (s : List Part) (vs : List Value) → scan strict end ts n (Spot ∷ s) vs
+      → (s : List Part) (vs : List ParsedValue) → scan strict end ts n (Spot ∷ s) vs
       ≡ scan strict end rest (n + index_nodes l) s (APlace l ∷ vs)
   place_reads (place {a} {name} {ts} {rest} i) n f g h b s vs =
       run_spot strict end (tok a (Name name) ∷ ts) n s vs ∙ read_name a name ts n (Index 0 0 ∷ s) vs
@@ -409,7 +409,7 @@ module _ (strict : Bool) (end : ℕ) where
   -- ---- types and variables
 
   pub bracketed_reads : {k found : VarType} {ts rest : List Token} (x : IsBracketed k ts rest found) (n : ℕ)
-      → here (is_sign sign.LeftBracket) rest ≡ false → (s : List Part) (vs : List Value)
+      → here (is_sign sign.LeftBracket) rest ≡ false → (s : List Part) (vs : List ParsedValue)
       → scan strict end ts n (Brackets ∷ s) (AType k ∷ vs) ≡ scan strict end rest n s (AType found ∷ vs)
   unfolding scan walk ends
   bracketed_reads (plain {k} {rest}) n b s vs = run_brackets_end strict end rest n s (AType k ∷ vs) b
@@ -420,7 +420,7 @@ module _ (strict : Bool) (end : ℕ) where
       ∙ run_build strict end rest n MakeArray s (AType k ∷ vs)
 
   pub type_reads : {ts rest : List Token} {k : VarType} (x : IsType ts rest k) (n : ℕ)
-      → here (is_sign sign.LeftBracket) rest ≡ false → (s : List Part) (vs : List Value)
+      → here (is_sign sign.LeftBracket) rest ≡ false → (s : List Part) (vs : List ParsedValue)
       → scan strict end ts n (Kind ∷ s) vs ≡ scan strict end rest n s (AType k ∷ vs)
   unfolding scan walk ends
   type_reads (ints {a} {ts} x) n b s vs = stops strict a.at (here (is_sign sign.LeftBracket) ts) Within
@@ -431,18 +431,18 @@ module _ (strict : Bool) (end : ℕ) where
 
   -- after a type: its variable's name
   pub named_reads : (a : Span) (name : List ℕ) (rest : List Token) (k : VarType) (n : ℕ) (s : List Part)
-      (vs : List Value) → scan strict end (tok a (Name name) ∷ rest) n (var_parts s) (AType k ∷ vs)
+      (vs : List ParsedValue) → scan strict end (tok a (Name name) ∷ rest) n (var_parts s) (AType k ∷ vs)
       ≡ scan strict end rest n s (AVar (record { kind = k; name = ident a name }) ∷ vs)
   named_reads a name rest k n s vs = read_name a name rest n (Build MakeVar ∷ s) (AType k ∷ vs)
       ∙ run_build strict end rest n MakeVar s (AnIdent (ident a name) ∷ AType k ∷ vs)
 
-  pub var_reads : {ts rest : List Token} {v : Var} (x : IsVar ts rest v) (n : ℕ) (s : List Part) (vs : List Value)
+  pub var_reads : {ts rest : List Token} {v : Var} (x : IsVar ts rest v) (n : ℕ) (s : List Part) (vs : List ParsedValue)
       → scan strict end ts n (Kind ∷ var_parts s) vs ≡ scan strict end rest n s (AVar v ∷ vs)
   var_reads (var {a} {name} {rest} {k} x) n s vs = type_reads x n refl (var_parts s) vs
       ∙ named_reads a name rest k n s vs
 
   pub param_reads : {ts rest : List Token} {v : Var} (x : IsVar ts rest v) (n c : ℕ)
-      → (IsTrue strict → c < MOST_PARAMETERS) → (s : List Part) (ys : List Var) (vs : List Value)
+      → (IsTrue strict → c < MOST_PARAMETERS) → (s : List Part) (ys : List Var) (vs : List ParsedValue)
       → scan strict end ts n (Param c ∷ s) (Vars ys ∷ vs) ≡ scan strict end rest n s (Vars (ys ++ v ∷ []) ∷ vs)
   unfolding scan walk ends
   param_reads (var {a = z} {name} {rest} {k} (ints {a} {ts} x)) n c h s ys vs =
@@ -458,7 +458,7 @@ module _ (strict : Bool) (end : ℕ) where
       ∙ named_reads z name rest k n (Build AddVar ∷ s) (Vars ys ∷ vs) ∙ run_build strict end rest n AddVar s _
 
   pub more_params_read : {ts rest : List Token} {xs : List Var} (x : IsMoreParams ts rest xs) (n c : ℕ)
-      → (IsTrue strict → c + length xs ≤ MOST_PARAMETERS) → (s : List Part) (ys : List Var) (vs : List Value)
+      → (IsTrue strict → c + length xs ≤ MOST_PARAMETERS) → (s : List Part) (ys : List Var) (vs : List ParsedValue)
       → scan strict end ts n (MoreParams c ∷ s) (Vars ys ∷ vs) ≡ scan strict end rest n s (Vars (ys ++ xs) ∷ vs)
   unfolding scan walk ends
   more_params_read (last_param {a} {rest}) n c h s ys vs =
@@ -472,14 +472,14 @@ module _ (strict : Bool) (end : ℕ) where
       ∙ ap (λ l. scan strict end rest n s (Vars l ∷ vs)) (append_assoc ys (v ∷ []) xs)
 
   -- the first parameter is read as any other, after none
-  pub first_param : {ts rest : List Token} {v : Var} (x : IsVar ts rest v) (n : ℕ) (s : List Part) (vs : List Value)
+  pub first_param : {ts rest : List Token} {v : Var} (x : IsVar ts rest v) (n : ℕ) (s : List Part) (vs : List ParsedValue)
       → scan strict end ts n (Params ∷ s) vs ≡ scan strict end ts n (Param 0 ∷ MoreParams 1 ∷ s) (Vars [] ∷ vs)
   unfolding scan walk ends
   first_param (var (ints x)) n s vs = refl
   first_param (var (objects x)) n s vs = refl
 
   pub params_read : {ts rest : List Token} {xs : List Var} (x : IsParams ts rest xs) (n : ℕ)
-      → (IsTrue strict → length xs ≤ MOST_PARAMETERS) → (s : List Part) (vs : List Value)
+      → (IsTrue strict → length xs ≤ MOST_PARAMETERS) → (s : List Part) (vs : List ParsedValue)
       → scan strict end ts n (Params ∷ s) vs ≡ scan strict end rest n s (Vars xs ∷ vs)
   unfolding scan walk ends
   params_read (no_param {a} {rest}) n h s vs = stops strict a.at (here (is_sign sign.LeftBracket) rest) Within
@@ -493,7 +493,7 @@ module _ (strict : Bool) (end : ℕ) where
   pub sized_reads : {name : Ident} {ts rest : List Token} {c : Creation} (x : IsSized name ts rest c) (n : ℕ)
       → (IsTrue strict → sized_parens x ≤ MOST_PARENS) → (IsTrue strict → n + creation_nodes c ≤ MOST_NODES)
       → (IsTrue strict → creation_index_depth c ≤ MOST_INDEX_DEPTH) → here (is_sign sign.LeftBracket) rest ≡ false
-      → (s : List Part) (vs : List Value) → scan strict end ts n (Sized ∷ s) (AnIdent name ∷ vs)
+      → (s : List Part) (vs : List ParsedValue) → scan strict end ts n (Sized ∷ s) (AnIdent name ∷ vs)
       ≡ scan strict end rest (n + creation_nodes c) s (ACreation c ∷ vs)
   unfolding scan walk ends
   sized_reads (one {name} {rest}) n f g h b s vs = rw add-zero (run_sized_end strict end rest n s (AnIdent name ∷ vs) b)
@@ -509,7 +509,7 @@ module _ (strict : Bool) (end : ℕ) where
   pub made_reads : {ts rest : List Token} {c : Creation} (x : IsMade ts rest c) (n : ℕ)
       → (IsTrue strict → made_parens x ≤ MOST_PARENS) → (IsTrue strict → n + creation_nodes c ≤ MOST_NODES)
       → (IsTrue strict → creation_index_depth c ≤ MOST_INDEX_DEPTH) → here (is_sign sign.LeftBracket) rest ≡ false
-      → (s : List Part) (vs : List Value) → scan strict end ts n (Made ∷ s) vs
+      → (s : List Part) (vs : List ParsedValue) → scan strict end ts n (Made ∷ s) vs
       ≡ scan strict end rest (n + creation_nodes c) s (ACreation c ∷ vs)
   unfolding scan walk ends
   made_reads (words {a} {b = y} {c = z} {ts} {rest} {e} d) n f g h b s vs =
@@ -527,7 +527,7 @@ module _ (strict : Bool) (end : ℕ) where
   -- ---- calls
 
   pub more_names_read : {ts rest : List Token} {xs : List Ident} (x : IsMoreNames ts rest xs) (n : ℕ) (s : List Part)
-      (ys : List Ident) (vs : List Value) → scan strict end ts n (MoreArgs ∷ s) (Idents ys ∷ vs)
+      (ys : List Ident) (vs : List ParsedValue) → scan strict end ts n (MoreArgs ∷ s) (Idents ys ∷ vs)
       ≡ scan strict end rest n s (Idents (ys ++ xs) ∷ vs)
   unfolding scan walk ends
   more_names_read (close {a} {rest}) n s ys vs = stops strict a.at (here (is_sign sign.LeftBracket) rest) Within
@@ -542,7 +542,7 @@ module _ (strict : Bool) (end : ℕ) where
       ∙ ap (λ l. scan strict end rest n s (Idents l ∷ vs)) (append_assoc ys (ident b name ∷ []) xs)
 
   pub names_read : {ts rest : List Token} {xs : List Ident} (x : IsNames ts rest xs) (n : ℕ) (s : List Part)
-      (vs : List Value) → scan strict end ts n (Args ∷ s) vs ≡ scan strict end rest n s (Idents xs ∷ vs)
+      (vs : List ParsedValue) → scan strict end ts n (Args ∷ s) vs ≡ scan strict end rest n s (Idents xs ∷ vs)
   unfolding scan walk ends
   names_read (none {a} {rest}) n s vs = stops strict a.at (here (is_sign sign.LeftBracket) rest) Within
       (scan strict end rest n s (Idents [] ∷ vs)) (λ t. refl)
@@ -551,7 +551,7 @@ module _ (strict : Bool) (end : ℕ) where
       ∙ more_names_read x n s (ident a name ∷ []) vs
 
   pub send_reads : (at : ℕ) (back : Bool) (b c : Span) (called : List ℕ) (ts rest : List Token) (l : Lvalue)
-      (xs : List Ident) → IsNames ts rest xs → (n : ℕ) (s : List Part) (vs : List Value)
+      (xs : List Ident) → IsNames ts rest xs → (n : ℕ) (s : List Part) (vs : List ParsedValue)
       → scan strict end (tok b (Name called) ∷ tok c (Sign sign.LeftParen) ∷ ts) n (send_parts at back s)
       (APlace l ∷ vs) ≡ scan strict end rest n s (AStatement (Call at back (Some l) (ident b called) xs) ∷ vs)
   send_reads at back b c called ts rest l xs x n s vs =
@@ -563,7 +563,7 @@ module _ (strict : Bool) (end : ℕ) where
 
   pub target_reads : {at : ℕ} {back : Bool} {name : Ident} {ts rest : List Token} {x : Statement}
       (r : IsTarget at back name ts rest x) (d l : ℕ) → (IsTrue strict → Fits d l x)
-      → (IsTrue strict → target_parens r ≤ MOST_PARENS) → (s : List Part) (vs : List Value)
+      → (IsTrue strict → target_parens r ≤ MOST_PARENS) → (s : List Part) (vs : List ParsedValue)
       → scan strict end ts 0 (Receiver at back l ∷ Count 0 ∷ s) (AnIdent name ∷ vs)
       ≡ scan strict end rest 0 s (AStatement x ∷ vs)
   unfolding scan walk ends
@@ -598,7 +598,7 @@ module _ (strict : Bool) (end : ℕ) where
   -- ---- statements
 
   pub begin_assign : (a : Span) (name : List ℕ) (ts : List Token) (n d l : ℕ) → (IsTrue strict → d < MOST_NESTING)
-      → (s : List Part) (vs : List Value) → scan strict end (tok a (Name name) ∷ ts) n (Single d l ∷ s) vs
+      → (s : List Part) (vs : List ParsedValue) → scan strict end (tok a (Name name) ∷ ts) n (Single d l ∷ s) vs
       ≡ scan strict end ts 0 (Index 0 0 ∷ Assign a.at ∷ Count 0 ∷ s) (AnIdent (ident a name) ∷ vs)
   unfolding scan walk
   begin_assign a name ts n d l h s vs = stops strict a.at (here (is_sign sign.LeftBracket) ts) (nesting_mark d)
@@ -606,7 +606,7 @@ module _ (strict : Bool) (end : ℕ) where
       (λ t. nesting_room d _ (h t))
 
   pub begin_if : (a : Span) (ts : List Token) (n d l : ℕ) → (IsTrue strict → d < MOST_NESTING)
-      → (s : List Part) (vs : List Value) → scan strict end (tok a (Word word.If) ∷ ts) n (Single d l ∷ s) vs
+      → (s : List Part) (vs : List ParsedValue) → scan strict end (tok a (Word word.If) ∷ ts) n (Single d l ∷ s) vs
       ≡ scan strict end ts 0 (Level 9 0 0 ∷ Branches word.Then word.Else word.Fi d l ∷ Build (MakeIf a.at) ∷ Count 0
       ∷ s) vs
   unfolding scan walk
@@ -615,7 +615,7 @@ module _ (strict : Bool) (end : ℕ) where
       vs) (λ t. nesting_room d _ (h t))
 
   pub begin_from : (a : Span) (ts : List Token) (n d l : ℕ) → (IsTrue strict → d < MOST_NESTING)
-      → (s : List Part) (vs : List Value) → scan strict end (tok a (Word word.From) ∷ ts) n (Single d l ∷ s) vs
+      → (s : List Part) (vs : List ParsedValue) → scan strict end (tok a (Word word.From) ∷ ts) n (Single d l ∷ s) vs
       ≡ scan strict end ts 0 (Level 9 0 0 ∷ Branches word.Do word.Loop word.Until d l ∷ Build (MakeFrom a.at) ∷ Count 0
       ∷ s) vs
   unfolding scan walk
@@ -624,7 +624,7 @@ module _ (strict : Bool) (end : ℕ) where
       ∷ s) vs) (λ t. nesting_room d _ (h t))
 
   pub begin_construct : (a : Span) (ts : List Token) (n d l : ℕ) → (IsTrue strict → d < MOST_NESTING)
-      → (IsTrue strict → l < MOST_LOCALS) → (s : List Part) (vs : List Value)
+      → (IsTrue strict → l < MOST_LOCALS) → (s : List Part) (vs : List ParsedValue)
       → scan strict end (tok a (Word word.Construct) ∷ ts) n (Single d l ∷ s) vs
       ≡ scan strict end ts 0 (AName ∷ AName ∷ Block (suc d) (suc l) ∷ AWord word.Destruct ∷ AName
       ∷ Build (MakeConstruct a.at) ∷ s) vs
@@ -634,7 +634,7 @@ module _ (strict : Bool) (end : ℕ) where
       ∷ Build (MakeConstruct a.at) ∷ s) vs) (λ t. scope_room d l _ (h t) (g t))
 
   pub begin_local : (a : Span) (ts : List Token) (n d l : ℕ) → (IsTrue strict → d < MOST_NESTING)
-      → (IsTrue strict → l < MOST_LOCALS) → (s : List Part) (vs : List Value)
+      → (IsTrue strict → l < MOST_LOCALS) → (s : List Part) (vs : List ParsedValue)
       → scan strict end (tok a (Word word.Local) ∷ ts) n (Single d l ∷ s) vs
       ≡ scan strict end ts 0 (Kind ∷ var_parts (ASign sign.Equal ∷ Level 9 0 0 ∷ Scope d l ∷ Build (MakeLocal a.at)
       ∷ Count 0 ∷ s)) vs
@@ -644,28 +644,28 @@ module _ (strict : Bool) (end : ℕ) where
       ∷ Count 0 ∷ s)) vs) (λ t. scope_room d l _ (h t) (g t))
 
   pub begin_new : (a : Span) (ts : List Token) (n d l : ℕ) → (IsTrue strict → d < MOST_NESTING)
-      → (s : List Part) (vs : List Value) → scan strict end (tok a (Word word.New) ∷ ts) n (Single d l ∷ s) vs
+      → (s : List Part) (vs : List ParsedValue) → scan strict end (tok a (Word word.New) ∷ ts) n (Single d l ∷ s) vs
       ≡ scan strict end ts 0 (Made ∷ Spot ∷ Build (MakeNew a.at) ∷ Count 0 ∷ s) vs
   unfolding scan walk
   begin_new a ts n d l h s vs = stops strict a.at (here (is_sign sign.LeftBracket) ts) (nesting_mark d)
       (scan strict end ts 0 (Made ∷ Spot ∷ Build (MakeNew a.at) ∷ Count 0 ∷ s) vs) (λ t. nesting_room d _ (h t))
 
   pub begin_delete : (a : Span) (ts : List Token) (n d l : ℕ) → (IsTrue strict → d < MOST_NESTING)
-      → (s : List Part) (vs : List Value) → scan strict end (tok a (Word word.Delete) ∷ ts) n (Single d l ∷ s) vs
+      → (s : List Part) (vs : List ParsedValue) → scan strict end (tok a (Word word.Delete) ∷ ts) n (Single d l ∷ s) vs
       ≡ scan strict end ts 0 (Made ∷ Spot ∷ Build (MakeDelete a.at) ∷ Count 0 ∷ s) vs
   unfolding scan walk
   begin_delete a ts n d l h s vs = stops strict a.at (here (is_sign sign.LeftBracket) ts) (nesting_mark d)
       (scan strict end ts 0 (Made ∷ Spot ∷ Build (MakeDelete a.at) ∷ Count 0 ∷ s) vs) (λ t. nesting_room d _ (h t))
 
   pub begin_copy : (a : Span) (ts : List Token) (n d l : ℕ) → (IsTrue strict → d < MOST_NESTING)
-      → (s : List Part) (vs : List Value) → scan strict end (tok a (Word word.Copy) ∷ ts) n (Single d l ∷ s) vs
+      → (s : List Part) (vs : List ParsedValue) → scan strict end (tok a (Word word.Copy) ∷ ts) n (Single d l ∷ s) vs
       ≡ scan strict end ts 0 (Kind ∷ Spot ∷ Spot ∷ Build (MakeCopy a.at) ∷ Count 0 ∷ s) vs
   unfolding scan walk
   begin_copy a ts n d l h s vs = stops strict a.at (here (is_sign sign.LeftBracket) ts) (nesting_mark d)
       (scan strict end ts 0 (Kind ∷ Spot ∷ Spot ∷ Build (MakeCopy a.at) ∷ Count 0 ∷ s) vs) (λ t. nesting_room d _ (h t))
 
   pub begin_uncopy : (a : Span) (ts : List Token) (n d l : ℕ) → (IsTrue strict → d < MOST_NESTING)
-      → (s : List Part) (vs : List Value) → scan strict end (tok a (Word word.Uncopy) ∷ ts) n (Single d l ∷ s) vs
+      → (s : List Part) (vs : List ParsedValue) → scan strict end (tok a (Word word.Uncopy) ∷ ts) n (Single d l ∷ s) vs
       ≡ scan strict end ts 0 (Kind ∷ Spot ∷ Spot ∷ Build (MakeUncopy a.at) ∷ Count 0 ∷ s) vs
   unfolding scan walk
   begin_uncopy a ts n d l h s vs = stops strict a.at (here (is_sign sign.LeftBracket) ts) (nesting_mark d)
@@ -673,34 +673,34 @@ module _ (strict : Bool) (end : ℕ) where
       (λ t. nesting_room d _ (h t))
 
   pub begin_call : (a : Span) (ts : List Token) (n d l : ℕ) → (IsTrue strict → d < MOST_NESTING)
-      → (s : List Part) (vs : List Value) → scan strict end (tok a (Word word.Call) ∷ ts) n (Single d l ∷ s) vs
+      → (s : List Part) (vs : List ParsedValue) → scan strict end (tok a (Word word.Call) ∷ ts) n (Single d l ∷ s) vs
       ≡ scan strict end ts 0 (AName ∷ Receiver a.at false l ∷ Count 0 ∷ s) vs
   unfolding scan walk
   begin_call a ts n d l h s vs = stops strict a.at (here (is_sign sign.LeftBracket) ts) (nesting_mark d)
       (scan strict end ts 0 (AName ∷ Receiver a.at false l ∷ Count 0 ∷ s) vs) (λ t. nesting_room d _ (h t))
 
   pub begin_uncall : (a : Span) (ts : List Token) (n d l : ℕ) → (IsTrue strict → d < MOST_NESTING)
-      → (s : List Part) (vs : List Value) → scan strict end (tok a (Word word.Uncall) ∷ ts) n (Single d l ∷ s) vs
+      → (s : List Part) (vs : List ParsedValue) → scan strict end (tok a (Word word.Uncall) ∷ ts) n (Single d l ∷ s) vs
       ≡ scan strict end ts 0 (AName ∷ Receiver a.at true l ∷ Count 0 ∷ s) vs
   unfolding scan walk
   begin_uncall a ts n d l h s vs = stops strict a.at (here (is_sign sign.LeftBracket) ts) (nesting_mark d)
       (scan strict end ts 0 (AName ∷ Receiver a.at true l ∷ Count 0 ∷ s) vs) (λ t. nesting_room d _ (h t))
 
   pub begin_skip : (a : Span) (ts : List Token) (n d l : ℕ) → (IsTrue strict → d < MOST_NESTING)
-      → (s : List Part) (vs : List Value) → scan strict end (tok a (Word word.Skip) ∷ ts) n (Single d l ∷ s) vs
+      → (s : List Part) (vs : List ParsedValue) → scan strict end (tok a (Word word.Skip) ∷ ts) n (Single d l ∷ s) vs
       ≡ scan strict end ts 0 s (AStatement (Skip a.at) ∷ vs)
   unfolding scan walk
   begin_skip a ts n d l h s vs = stops strict a.at (here (is_sign sign.LeftBracket) ts) (nesting_mark d)
       (scan strict end ts 0 s (AStatement (Skip a.at) ∷ vs)) (λ t. nesting_room d _ (h t))
 
   pub read_update : (at : ℕ) (a : Span) (kind : TokenKind) (op : UpdateOp) (ts : List Token) (n : ℕ) (s : List Part)
-      (vs : List Value) → update_operator kind ≡ Some op → scan strict end (tok a kind ∷ ts) n (Assign at ∷ s) vs
+      (vs : List ParsedValue) → update_operator kind ≡ Some op → scan strict end (tok a kind ∷ ts) n (Assign at ∷ s) vs
       ≡ scan strict end ts n (Level 9 0 0 ∷ Build (MakeUpdate at op) ∷ s) vs
   unfolding scan walk
   read_update at a kind op ts n s vs h = rw h (stops strict a.at (here (is_sign sign.LeftBracket) ts) Within
       (scan strict end ts n (Level 9 0 0 ∷ Build (MakeUpdate at op) ∷ s) vs) (λ t. refl))
 
-  pub read_swap : (at : ℕ) (a : Span) (ts : List Token) (n : ℕ) (s : List Part) (vs : List Value)
+  pub read_swap : (at : ℕ) (a : Span) (ts : List Token) (n : ℕ) (s : List Part) (vs : List ParsedValue)
       → scan strict end (tok a (Sign sign.Swap) ∷ ts) n (Assign at ∷ s) vs
       ≡ scan strict end ts n (Spot ∷ Build (MakeSwap at) ∷ s) vs
   unfolding scan walk
@@ -709,7 +709,7 @@ module _ (strict : Bool) (end : ℕ) where
 
   pub assigned_reads : {at : ℕ} {p : Lvalue} {ts rest : List Token} {x : Statement} (r : IsAssigned at p ts rest x)
       (n : ℕ) → n ≡ index_nodes p → (IsTrue strict → IsSmallStatement x)
-      → (IsTrue strict → assigned_parens r ≤ MOST_PARENS) → Below 10 rest → (s : List Part) (vs : List Value)
+      → (IsTrue strict → assigned_parens r ≤ MOST_PARENS) → Below 10 rest → (s : List Part) (vs : List ParsedValue)
       → scan strict end ts n (Assign at ∷ Count 0 ∷ s) (APlace p ∷ vs) ≡ scan strict end rest 0 s (AStatement x ∷ vs)
   assigned_reads {at} {p} (update {a} {kind} {op} {ts} {rest} {e} h d) n same f g b s vs =
       read_update at a kind op ts n (Count 0 ∷ s) (APlace p ∷ vs) h
@@ -781,7 +781,7 @@ module _ (strict : Bool) (end : ℕ) where
   mutual
     pub single_reads : {ts rest : List Token} {x : Statement} (r : IsStatement ts rest x) (d l n : ℕ)
         → (IsTrue strict → Fits d l x) → (IsTrue strict → statement_parens r ≤ MOST_PARENS) → Below 10 rest
-        → (s : List Part) (vs : List Value) → scan strict end ts n (Single d l ∷ s) vs
+        → (s : List Part) (vs : List ParsedValue) → scan strict end ts n (Single d l ∷ s) vs
         ≡ scan strict end rest 0 s (AStatement x ∷ vs)
     single_reads (assign {a} {name} {ts} {mid} {p} i r) d l n f g b s vs =
         let small : IsTrue strict → (index_nodes p ≤ MOST_NODES) × (lvalue_index_depth p ≤ MOST_INDEX_DEPTH) =
@@ -905,7 +905,7 @@ module _ (strict : Bool) (end : ℕ) where
         → starts (Word third) ≡ false → (IsTrue strict → BlockFits (suc d) l x)
         → (IsTrue strict → BlockFits (suc d) l y) → (IsTrue strict → n + nodes e ≤ MOST_NODES)
         → (IsTrue strict → index_depth e ≤ MOST_INDEX_DEPTH) → (IsTrue strict → branch_parens r ≤ MOST_PARENS)
-        → Below 10 rest → (s : List Part) (vs : List Value)
+        → Below 10 rest → (s : List Part) (vs : List ParsedValue)
         → scan strict end ts n (Branches first second third d l ∷ s) vs
         ≡ scan strict end rest (n + nodes e) s (AnExpr e ∷ ABlock y ∷ ABlock x ∷ vs)
     branches_read {first} {second} {third} (branches {a} {b = b1} {c} {ts} {us} {vs = ws} {rest} {taken} {other} {e} r1
@@ -925,7 +925,7 @@ module _ (strict : Bool) (end : ℕ) where
     pub scope_reads : {ts rest : List Token} {x : Statements} {w : Var} {e : Expression} (r : IsScope ts rest x w e)
         (d l n : ℕ) → (IsTrue strict → BlockFits (suc d) (suc l) x) → (IsTrue strict → n + nodes e ≤ MOST_NODES)
         → (IsTrue strict → index_depth e ≤ MOST_INDEX_DEPTH) → (IsTrue strict → scope_parens r ≤ MOST_PARENS)
-        → Below 10 rest → (s : List Part) (vs : List Value)
+        → Below 10 rest → (s : List Part) (vs : List ParsedValue)
         → scan strict end ts n (Scope d l ∷ s) vs ≡ scan strict end rest (n + nodes e) s
         (AnExpr e ∷ AVar w ∷ ABlock x ∷ vs)
     scope_reads (scope {a} {b = b1} {ts} {us} {vs = ws} {rest} {body} {w} {e} r v x) d l n f g h k b s vs =
@@ -940,7 +940,7 @@ module _ (strict : Bool) (end : ℕ) where
 
     pub block_reads : {ts rest : List Token} {x : Statements} (r : IsBlock ts rest x) (d l n : ℕ)
         → (IsTrue strict → BlockFits d l x) → (IsTrue strict → block_parens r ≤ MOST_PARENS) → Below 10 rest
-        → here starts rest ≡ false → (s : List Part) (vs : List Value)
+        → here starts rest ≡ false → (s : List Part) (vs : List ParsedValue)
         → scan strict end ts n (Block d l ∷ s) vs ≡ scan strict end rest 0 s (ABlock x ∷ vs)
     block_reads (block {ts} {mid} {rest} {x} {xs} r rs) d l n f g b o s vs =
         run_block strict end ts n d l s vs
@@ -952,7 +952,7 @@ module _ (strict : Bool) (end : ℕ) where
 
     pub statements_read : {ts rest : List Token} {xs : List Statement} (rs : IsStatements ts rest xs) (d l : ℕ)
         → (IsTrue strict → BlockFits d l (statements_of xs)) → (IsTrue strict → list_parens rs ≤ MOST_PARENS)
-        → Below 10 rest → here starts rest ≡ false → (s : List Part) (ys : List Statement) (vs : List Value)
+        → Below 10 rest → here starts rest ≡ false → (s : List Part) (ys : List Statement) (vs : List ParsedValue)
         → scan strict end ts 0 (Stmts d l ∷ s) (Many ys ∷ vs) ≡ scan strict end rest 0 s (Many (ys ++ xs) ∷ vs)
     statements_read (finish {rest}) d l f g b o s ys vs = run_stmts_end strict end rest 0 d l s (Many ys ∷ vs) o
         ∙ ap (λ m. scan strict end rest 0 s (Many m ∷ vs)) (sym (append-nil ys))
@@ -968,7 +968,7 @@ module _ (strict : Bool) (end : ℕ) where
 
   pub method_reads : {ts rest : List Token} {x : Procedure} (r : IsMethod ts rest x) → (IsTrue strict → IsSmallMethod x)
       → (IsTrue strict → method_parens r ≤ MOST_PARENS) → Below 10 rest → here starts rest ≡ false
-      → (s : List Part) (xs : List Procedure) (vs : List Value)
+      → (s : List Part) (xs : List Procedure) (vs : List ParsedValue)
       → scan strict end ts 0 (AWord word.Method ∷ method_parts s) (Methods xs ∷ vs)
       ≡ scan strict end rest 0 s (Methods (xs ++ x ∷ []) ∷ vs)
   method_reads (method {a} {b = b1} {c} {name} {ts} {us} {rest} {ps} {body} p r) f g b o s xs vs =
@@ -989,7 +989,7 @@ module _ (strict : Bool) (end : ℕ) where
   var_begins (var (objects x)) = refl
 
   pub fields_read : {ts rest : List Token} {xs : List Var} (r : IsFields ts rest xs) → here types rest ≡ false
-      → (s : List Part) (ys : List Var) (vs : List Value) → scan strict end ts 0 (Fields ∷ s) (Vars ys ∷ vs)
+      → (s : List Part) (ys : List Var) (vs : List ParsedValue) → scan strict end ts 0 (Fields ∷ s) (Vars ys ∷ vs)
       ≡ scan strict end rest 0 s (Vars (ys ++ xs) ∷ vs)
   fields_read (no_field {rest}) b s ys vs = run_fields_end strict end rest 0 s (Vars ys ∷ vs) b
       ∙ ap (λ m. scan strict end rest 0 s (Vars m ∷ vs)) (sym (append-nil ys))
@@ -1001,7 +1001,7 @@ module _ (strict : Bool) (end : ℕ) where
       ∙ ap (λ m. scan strict end rest 0 s (Vars m ∷ vs)) (append_assoc ys (v ∷ []) xs)
 
   pub parent_reads : {ts rest : List Token} {p : Option Ident} (r : IsParent ts rest p)
-      → here (is_word word.Inherits) rest ≡ false → (s : List Part) (vs : List Value)
+      → here (is_word word.Inherits) rest ≡ false → (s : List Part) (vs : List ParsedValue)
       → scan strict end ts 0 (Parent ∷ s) vs ≡ scan strict end rest 0 s (AParent p ∷ vs)
   parent_reads (alone {rest}) b s vs = run_parent_end strict end rest 0 s vs b
   parent_reads (inherits {a} {b = b1} {name} {rest}) b s vs =
@@ -1036,7 +1036,7 @@ module _ (strict : Bool) (end : ℕ) where
 
   pub methods_read : {ts rest : List Token} {xs : List Procedure} (r : IsMethods ts rest xs)
       → (IsTrue strict → All IsSmallMethod xs) → (IsTrue strict → methods_parens r ≤ MOST_PARENS) → Closed rest
-      → here (is_word word.Method) rest ≡ false → (s : List Part) (ys : List Procedure) (vs : List Value)
+      → here (is_word word.Method) rest ≡ false → (s : List Part) (ys : List Procedure) (vs : List ParsedValue)
       → scan strict end ts 0 (Procedures ∷ s) (Methods ys ∷ vs) ≡ scan strict end rest 0 s (Methods (ys ++ xs) ∷ vs)
   methods_read (no_method {rest}) f g c b s ys vs = run_procedures_end strict end rest 0 s (Methods ys ∷ vs) b
       ∙ ap (λ m. scan strict end rest 0 s (Methods m ∷ vs)) (sym (append-nil ys))
@@ -1048,7 +1048,7 @@ module _ (strict : Bool) (end : ℕ) where
       ∙ ap (λ m. scan strict end rest 0 s (Methods m ∷ vs)) (append_assoc ys (x ∷ []) xs)
 
   pub begin_class : (a : Span) (ts : List Token) (c : ℕ) → (IsTrue strict → c < MOST_CLASSES)
-      → (s : List Part) (vs : List Value) → scan strict end (tok a (Word word.Class) ∷ ts) 0 (Program c ∷ s) vs
+      → (s : List Part) (vs : List ParsedValue) → scan strict end (tok a (Word word.Class) ∷ ts) 0 (Program c ∷ s) vs
       ≡ scan strict end ts 0 (class_parts (Program (suc c) ∷ s)) vs
   unfolding scan walk
   begin_class a ts c h s vs = stops strict a.at (here (is_sign sign.LeftBracket) ts) (class_mark c)
@@ -1057,7 +1057,7 @@ module _ (strict : Bool) (end : ℕ) where
   pub class_reads : {ts rest : List Token} {x : ClassText} (r : IsClass ts rest x) (c : ℕ)
       → (IsTrue strict → c < MOST_CLASSES) → (IsTrue strict → All IsSmallMethod x.methods)
       → (IsTrue strict → class_parens r ≤ MOST_PARENS) → Closed rest → here (is_word word.Method) rest ≡ false
-      → (s : List Part) (xs : List ClassText) (vs : List Value)
+      → (s : List Part) (xs : List ClassText) (vs : List ParsedValue)
       → scan strict end ts 0 (Program c ∷ s) (Classes xs ∷ vs)
       ≡ scan strict end rest 0 (Program (suc c) ∷ s) (Classes (xs ++ x ∷ []) ∷ vs)
   class_reads (class {a} {b = b1} {name} {ts} {us} {vs = ws} {rest} {p} {fs} {ms} r1 r2 r3) c h f g k b s xs vs =
@@ -1080,7 +1080,7 @@ module _ (strict : Bool) (end : ℕ) where
       → (IsTrue strict → c + length xs ≤ MOST_CLASSES) → (IsTrue strict
       → All (λ text. All IsSmallMethod text.methods) xs) → (IsTrue strict → classes_parens r ≤ MOST_PARENS)
       → Closed rest → here (is_word word.Method) rest ≡ false → here (is_word word.Class) rest ≡ false
-      → (s : List Part) (ys : List ClassText) (vs : List Value)
+      → (s : List Part) (ys : List ClassText) (vs : List ParsedValue)
       → scan strict end ts 0 (Program c ∷ s) (Classes ys ∷ vs) ≡ scan strict end rest 0 s (Classes (ys ++ xs) ∷ vs)
   classes_read (no_class {rest}) c h f g k b o s ys vs = run_program_end strict end rest 0 c s (Classes ys ∷ vs) o
       ∙ ap (λ m. scan strict end rest 0 s (Classes m ∷ vs)) (sym (append-nil ys))

@@ -11,8 +11,8 @@ use Rattle.roopl_parser.specs.declared.error.ParseError.{ParseError}
 use Rattle.roopl_parser.specs.declared.error.ParseError.TheVariants.{Syntax, Limit}
 use Rattle.roopl_parser.specs.Grammar.{Derives, IsClasses, no_class}
 use Rattle.roopl_parser.specs.Parens.{classes_parens}
-use Rattle.roopl_parser.specs.Reader.{Value, Part, Classes, Program, scan, ends}
-use Rattle.roopl_parser.specs.Viable.{IsViable, IsWrongAt, IsReached, IsSmall, Behind, place_of, passes, too_many}
+use Rattle.roopl_parser.specs.Reader.{ParsedValue, Part, Classes, Program, scan, ends}
+use Rattle.roopl_parser.specs.Viable.{IsViable, IsWrongAt, IsTokenReached, IsSmall, Behind, offset_at, passes, too_many}
 use Rattle.roopl_parser.specs.Viable.{or_else, first_limit, unless, reading}
 use Rattle.roopl_parser.proofs.Sound.{Gen}
 use Rattle.roopl_parser.proofs.Complete.{classes_read}
@@ -23,10 +23,10 @@ use Rattle.roopl_parser.proofs.Fault.{free_sound, stop, run_free, over}
 abbrev start : List Part
 start = Program 0 ∷ []
 
-abbrev none_yet : List Value
+abbrev none_yet : List ParsedValue
 none_yet = Classes [] ∷ []
 
-from_gen : (ts : List Token) (q : Value) → Gen start none_yet ts q
+from_gen : (ts : List Token) (q : ParsedValue) → Gen start none_yet ts q
     → (x : List ClassText) × IsClasses ts [] x × (q ≡ Classes x)
 from_gen ts q (inl g) =
     let P : List Token → Type 0 = λ r. IsClasses r [] [] in
@@ -41,7 +41,7 @@ source x = record { classes = x }
 not_true : IsTrue false → ⊥
 not_true t = cc
 
-no_limit : (m : Option ParseError) (free : Result Value ParseError) (q : Value) → unless m free ≡ Ok q → m ≡ None
+no_limit : (m : Option ParseError) (free : Result ParsedValue ParseError) (q : ParsedValue) → unless m free ≡ Ok q → m ≡ None
 no_limit None free q h = refl
 no_limit (Some e) free q h = cc
 
@@ -89,7 +89,7 @@ wrong_at end ts at h =
     let r = stop end ts 0 start none_yet (Syntax at) h in
     let a = r.alive in
     let g = from_gen (r.front ++ a.0) a.1 a.2 in
-    let place : Syntax at ≡ Syntax (place_of end r.rest) = r.place in
+    let place : Syntax at ≡ Syntax (offset_at end r.rest) = r.place in
     record {
       front = r.front;
       rest = r.rest;
@@ -100,7 +100,7 @@ wrong_at end ts at h =
     }
 
 reached : (ts : List Token) (which : LimitKind) (at : ℕ) → passes ts 0 start none_yet ≡ Some (Limit which at)
-    → IsReached ts at
+    → IsTokenReached ts at
 reached ts which at h =
     let r = over ts 0 start none_yet (Limit which at) h in
     let a = r.alive in
@@ -109,7 +109,7 @@ reached ts which at h =
     record { front = r.front; token = r.token; rest = r.rest; all = r.all; place = cc; viable = (a.0, source g.0, g.1) }
 
 -- reading is reading without limits, up to the first that is passed
-joined : (first second : Option ParseError) (strict free : Result Value ParseError) → strict ≡ unless second free
+joined : (first second : Option ParseError) (strict free : Result ParsedValue ParseError) → strict ≡ unless second free
     → unless first strict ≡ unless (or_else first second) free
 joined None second strict free h = h
 joined (Some e) second strict free h = refl
@@ -138,7 +138,7 @@ passed_limit ts at h =
     cc
 
 not_syntax : (ts : List Token) (at : ℕ) (b : Bool) → or_else
-    (cond b (Some (Limit Tokens (place_of 0 (drop MOST_TOKENS ts)))) None) (passes ts 0 start none_yet)
+    (cond b (Some (Limit Tokens (offset_at 0 (drop MOST_TOKENS ts)))) None) (passes ts 0 start none_yet)
     ≡ Some (Syntax at) → ⊥
 not_syntax ts at true h = cc
 not_syntax ts at false h = passed_limit ts at h
@@ -160,7 +160,7 @@ not_limit : (end : ℕ) (ts : List Token) (which : LimitKind) (at : ℕ)
     → scan false end ts 0 start none_yet ≡ Err (Limit which at) → ⊥
 not_limit end ts which at h =
     let r = stop end ts 0 start none_yet (Limit which at) h in
-    let place : Limit which at ≡ Syntax (place_of end r.rest) = r.place in
+    let place : Limit which at ≡ Syntax (offset_at end r.rest) = r.place in
     cc
 
 limit_by : (end : ℕ) (ts : List Token) (which : LimitKind) (at : ℕ) (m : Option ParseError)
@@ -170,14 +170,14 @@ limit_by end ts which at None e h = absurd (not_limit end ts which at (sym e ∙
 limit_by end ts which at (Some l) e h = cc
 
 limit_reached : (ts : List Token) (which : LimitKind) (at : ℕ) (b : Bool)
-    → or_else (cond b (Some (Limit Tokens (place_of 0 (drop MOST_TOKENS ts)))) None) (passes ts 0 start none_yet)
-    ≡ Some (Limit which at) → which ≢ Tokens → IsReached ts at
+    → or_else (cond b (Some (Limit Tokens (offset_at 0 (drop MOST_TOKENS ts)))) None) (passes ts 0 start none_yet)
+    ≡ Some (Limit which at) → which ≢ Tokens → IsTokenReached ts at
 limit_reached ts which at true h never = let same : which ≡ Tokens = cc in absurd (never same)
 limit_reached ts which at false h never = reached ts which at h
 
 -- what follows if reading gave a limit
 pub read_limit : (end : ℕ) (ts : List Token) (which : LimitKind) (at : ℕ) → reading end ts ≡ Err (Limit which at)
-    → (first_limit ts ≡ Some (Limit which at)) × (which ≢ Tokens → IsReached ts at)
+    → (first_limit ts ≡ Some (Limit which at)) × (which ≢ Tokens → IsTokenReached ts at)
 read_limit end ts which at h =
     let m = limit_by end ts which at (first_limit ts) (reading_is end ts) h in
     (m, limit_reached ts which at (nat_lt MOST_TOKENS (length ts)) m)
@@ -188,7 +188,7 @@ pub read_all : (end : ℕ) (ts : List Token) (x : Source) → Derives ts x → f
 read_all end ts x d e = reading_is end ts ∙ ap (λ m. unless m (scan false end ts 0 start none_yet)) e
     ∙ accepted end ts x.classes d
 
-strict_ok : (m : Option ParseError) (strict : Result Value ParseError) (q : Value) → unless m strict ≡ Ok q
+strict_ok : (m : Option ParseError) (strict : Result ParsedValue ParseError) (q : ParsedValue) → unless m strict ≡ Ok q
     → strict ≡ Ok q
 strict_ok None strict q h = h
 strict_ok (Some e) strict q h = cc
@@ -219,8 +219,8 @@ behind_same r s more h b = let P : List Token → Type 0 = λ l. Behind l more i
 one_place : (end : ℕ) (D : List Token → Type 0) (f r g s : List Token) → f ++ r ≡ g ++ s
     → ((more : List Token) × D (f ++ more)) → ((more : List Token) → Behind r more → D (f ++ more) → ⊥)
     → ((more : List Token) × D (g ++ more)) → ((more : List Token) → Behind s more → D (g ++ more) → ⊥)
-    → place_of end r ≡ place_of end s
-one_place end D [] r [] s same live dead live' dead' = ap (place_of end) same
+    → offset_at end r ≡ offset_at end s
+one_place end D [] r [] s same live dead live' dead' = ap (offset_at end) same
 one_place end D [] r (t ∷ g) s same live dead live' dead' =
     absurd (dead (t ∷ g ++ live'.0) (behind_same (t ∷ g ++ s) r (t ∷ g ++ live'.0) (sym same) (g ++ live'.0, refl))
     live'.1)
@@ -246,7 +246,7 @@ one_wrong end ts at to a b =
     (λ more h d. a.wrong more d.0 h d.1) (program_of b.front b.viable) (λ more h d. b.wrong more d.0 h d.1)
     ∙ sym b.place
 
-free_wrong : (end : ℕ) (ts : List Token) (at : ℕ) (r : Result Value ParseError) → scan false end ts 0 start none_yet ≡ r
+free_wrong : (end : ℕ) (ts : List Token) (at : ℕ) (r : Result ParsedValue ParseError) → scan false end ts 0 start none_yet ≡ r
     → IsWrongAt end ts at → r ≡ Err (Syntax at)
 free_wrong end ts at (Ok q) e w =
     let g = from_gen ts q (free_sound end ts 0 start none_yet q e) in
@@ -254,8 +254,8 @@ free_wrong end ts at (Ok q) e w =
     absurd (w.wrong w.rest (source g.0) (itself w.rest) (subst P w.all g.1))
 free_wrong end ts at (Err f) e w =
     let r = stop end ts 0 start none_yet f e in
-    let p = wrong_at end ts (place_of end r.rest) (e ∙ ap Err r.place) in
-    let same = one_wrong end ts (place_of end r.rest) at p w in
+    let p = wrong_at end ts (offset_at end r.rest) (e ∙ ap Err r.place) in
+    let same = one_wrong end ts (offset_at end r.rest) at p w in
     ap Err (r.place ∙ ap Syntax same)
 
 -- if tokens go wrong and none before passes a limit, reading says so

@@ -7,39 +7,39 @@ use Rattle.roopl_lexer.specs.declared.token.Token.{Token}
 use Rattle.roopl_lexer.specs.declared.token.Symbol.TheVariants as sign
 use Rattle.roopl_parser.specs.declared.error.ParseError.{ParseError}
 use Rattle.roopl_parser.specs.declared.error.ParseError.TheVariants.{Syntax, Limit}
-use Rattle.roopl_parser.specs.Reader.{Value, Part, Step, Mark, More, Index, Brackets, Sized, Stmts, Count, Build}
+use Rattle.roopl_parser.specs.Reader.{ParsedValue, Part, Step, Mark, More, Index, Brackets, Sized, Stmts, Count, Build}
 use Rattle.roopl_parser.specs.Reader.{Parent, Fields, Procedures, Program, AParent, MakeWhole, MakeObject, build, Wrong}
 use Rattle.roopl_parser.specs.Reader.{Next, walk, ends, scan, led, passed, stopped, here, is_sign}
-use Rattle.roopl_parser.specs.Viable.{place_of, Behind, passing_by, passing, passes, unless}
+use Rattle.roopl_parser.specs.Viable.{offset_at, Behind, passing_by, passing, passes, unless}
 use Rattle.roopl_parser.proofs.Sound.{Gen, Then_gen, walk_sound, ends_sound}
 use Rattle.roopl_parser.proofs.Productive.{productive}
 
 abbrev pub bracket : List Token → Bool
 bracket ts = here (is_sign sign.LeftBracket) ts
 
-pub record Stop (at : ℕ) (ts : List Token) (n : ℕ) (s : List Part) (vs : List Value) (e : ParseError) : Type 0 where
+pub record Stop (at : ℕ) (ts : List Token) (n : ℕ) (s : List Part) (vs : List ParsedValue) (e : ParseError) : Type 0 where
   pub front : List Token
   pub rest : List Token
   pub all : ts ≡ front ++ rest
-  pub place : e ≡ Syntax (place_of at rest)
-  pub alive : (more : List Token) × (q : Value) × Gen s vs (front ++ more) q
-  pub dead : (more : List Token) (q : Value) → Behind rest more → scan false at (front ++ more) n s vs ≢ Ok q
+  pub place : e ≡ Syntax (offset_at at rest)
+  pub alive : (more : List Token) × (q : ParsedValue) × Gen s vs (front ++ more) q
+  pub dead : (more : List Token) (q : ParsedValue) → Behind rest more → scan false at (front ++ more) n s vs ≢ Ok q
 
-led_sound : (at to : ℕ) (b : Bool) (ts : List Token) (step : Step) (q : Value)
-    → ((n : ℕ) (s : List Part) (vs : List Value) → scan false at ts n s vs ≡ Ok q → Gen s vs ts q)
+led_sound : (at to : ℕ) (b : Bool) (ts : List Token) (step : Step) (q : ParsedValue)
+    → ((n : ℕ) (s : List Part) (vs : List ParsedValue) → scan false at ts n s vs ≡ Ok q → Gen s vs ts q)
     → led false to b (scan false at ts) step ≡ Ok q → Then_gen step ts q
 led_sound at to b ts Wrong q below h = cc
 led_sound at to b ts (Next m n s vs) q below h = below n s vs h
 
 -- what is read without the limits, the grammar derives
-pub free_sound : (at : ℕ) (ts : List Token) (n : ℕ) (s : List Part) (vs : List Value) (q : Value)
+pub free_sound : (at : ℕ) (ts : List Token) (n : ℕ) (s : List Part) (vs : List ParsedValue) (q : ParsedValue)
     → scan false at ts n s vs ≡ Ok q → Gen s vs ts q
 unfolding scan
 free_sound at [] n s vs q h = ends_sound at s vs q h
 free_sound at (t ∷ ts) n s vs q h = walk_sound s n vs t ts q
     (led_sound at t.at (bracket ts) ts (walk s n vs t) q (λ n s vs. free_sound at ts n s vs q) h)
 
-ends_place : (at : ℕ) (s : List Part) (vs : List Value) (e : ParseError) → ends at s vs ≡ Err e → e ≡ Syntax at
+ends_place : (at : ℕ) (s : List Part) (vs : List ParsedValue) (e : ParseError) → ends at s vs ≡ Err e → e ≡ Syntax at
 unfolding ends
 ends_place at [] vs e h = cc
 ends_place at (More k p i ∷ s) vs e h = ends_place at s vs e h
@@ -55,8 +55,8 @@ ends_place at (Procedures ∷ s) vs e h = ends_place at s vs e h
 ends_place at (Program c ∷ s) vs e h = ends_place at s vs e h
 ends_place at (_ ∷ s) vs e h = cc
 
-stop_step : (at : ℕ) (t : Token) (ts : List Token) (n : ℕ) (s : List Part) (vs : List Value) (e : ParseError)
-    (step : Step) → walk s n vs t ≡ step → ((m : ℕ) (u : List Part) (ws : List Value) → scan false at ts m u ws ≡ Err e
+stop_step : (at : ℕ) (t : Token) (ts : List Token) (n : ℕ) (s : List Part) (vs : List ParsedValue) (e : ParseError)
+    (step : Step) → walk s n vs t ≡ step → ((m : ℕ) (u : List Part) (ws : List ParsedValue) → scan false at ts m u ws ≡ Err e
     → Stop at ts m u ws e) → led false t.at (bracket ts) (scan false at ts) step ≡ Err e → Stop at (t ∷ ts) n s vs e
 unfolding scan
 stop_step at t ts n s vs e Wrong w below h = record {
@@ -89,7 +89,7 @@ stop_step at t ts n s vs e (Next m n' s' vs') w below h =
 
 -- where reading without the limits stops: some value is read after the tokens before, and none with
 -- the token
-pub stop : (at : ℕ) (ts : List Token) (n : ℕ) (s : List Part) (vs : List Value) (e : ParseError)
+pub stop : (at : ℕ) (ts : List Token) (n : ℕ) (s : List Part) (vs : List ParsedValue) (e : ParseError)
     → scan false at ts n s vs ≡ Err e → Stop at ts n s vs e
 unfolding scan
 stop at [] n s vs e h = record {
@@ -105,13 +105,13 @@ stop at [] n s vs e h = record {
 }
 stop at (t ∷ ts) n s vs e h = stop_step at t ts n s vs e (walk s n vs t) refl (λ m u ws. stop at ts m u ws e) h
 
-by_mark : (at : ℕ) (which : Option LimitKind) (strict free : Result Value ParseError) (limit : Option ParseError)
+by_mark : (at : ℕ) (which : Option LimitKind) (strict free : Result ParsedValue ParseError) (limit : Option ParseError)
     → strict ≡ unless limit free → stopped at which strict ≡ unless (passing_by at which limit) free
 by_mark at None strict free limit h = h
 by_mark at (Some which) strict free limit h = refl
 
 run_step : (at to : ℕ) (b : Bool) (ts : List Token) (step : Step)
-    → ((n : ℕ) (s : List Part) (vs : List Value) → scan true at ts n s vs
+    → ((n : ℕ) (s : List Part) (vs : List ParsedValue) → scan true at ts n s vs
     ≡ unless (passes ts n s vs) (scan false at ts n s vs))
     → led true to b (scan true at ts) step ≡ unless (passing to b (passes ts) step)
     (led false to b (scan false at ts) step)
@@ -120,24 +120,24 @@ run_step at to b ts (Next mark n s vs) below = by_mark to (passed mark b) (scan 
     (scan false at ts n s vs) (passes ts n s vs) (below n s vs)
 
 -- reading with the limits is reading without them, up to the first limit that is passed
-pub run_free : (at : ℕ) (ts : List Token) (n : ℕ) (s : List Part) (vs : List Value)
+pub run_free : (at : ℕ) (ts : List Token) (n : ℕ) (s : List Part) (vs : List ParsedValue)
     → scan true at ts n s vs ≡ unless (passes ts n s vs) (scan false at ts n s vs)
 unfolding scan passes
 run_free at [] n s vs = refl
 run_free at (t ∷ ts) n s vs = run_step at t.at (bracket ts) ts (walk s n vs t) (λ n s vs. run_free at ts n s vs)
 
-pub record Over (ts : List Token) (s : List Part) (vs : List Value) (e : ParseError) : Type 0 where
+pub record Over (ts : List Token) (s : List Part) (vs : List ParsedValue) (e : ParseError) : Type 0 where
   pub front : List Token
   pub token : Token
   pub rest : List Token
   pub which : LimitKind
   pub all : ts ≡ front ++ token ∷ rest
   pub place : e ≡ Limit which token.at
-  pub alive : (more : List Token) × (q : Value) × Gen s vs (front ++ token ∷ more) q
+  pub alive : (more : List Token) × (q : ParsedValue) × Gen s vs (front ++ token ∷ more) q
 
-over_mark : (t : Token) (ts : List Token) (n : ℕ) (s : List Part) (vs : List Value) (e : ParseError) (m : Mark) (n' : ℕ)
-    (s' : List Part) (vs' : List Value) (which : Option LimitKind) → walk s n vs t ≡ Next m n' s' vs'
-    → ((m : ℕ) (u : List Part) (ws : List Value) → passes ts m u ws ≡ Some e → Over ts u ws e)
+over_mark : (t : Token) (ts : List Token) (n : ℕ) (s : List Part) (vs : List ParsedValue) (e : ParseError) (m : Mark) (n' : ℕ)
+    (s' : List Part) (vs' : List ParsedValue) (which : Option LimitKind) → walk s n vs t ≡ Next m n' s' vs'
+    → ((m : ℕ) (u : List Part) (ws : List ParsedValue) → passes ts m u ws ≡ Some e → Over ts u ws e)
     → passing_by t.at which (passes ts n' s' vs') ≡ Some e → Over (t ∷ ts) s vs e
 over_mark t ts n s vs e m n' s' vs' (Some which) w below h =
     let a = productive s' vs' in
@@ -165,15 +165,15 @@ over_mark t ts n s vs e m n' s' vs' None w below h =
       alive = (a.0, a.1, walk_sound s n vs t (r.front ++ r.token ∷ a.0) a.1 (subst P (sym w) a.2));
     }
 
-over_step : (t : Token) (ts : List Token) (n : ℕ) (s : List Part) (vs : List Value) (e : ParseError) (step : Step)
-    → walk s n vs t ≡ step → ((m : ℕ) (u : List Part) (ws : List Value) → passes ts m u ws ≡ Some e → Over ts u ws e)
+over_step : (t : Token) (ts : List Token) (n : ℕ) (s : List Part) (vs : List ParsedValue) (e : ParseError) (step : Step)
+    → walk s n vs t ≡ step → ((m : ℕ) (u : List Part) (ws : List ParsedValue) → passes ts m u ws ≡ Some e → Over ts u ws e)
     → passing t.at (bracket ts) (passes ts) step ≡ Some e → Over (t ∷ ts) s vs e
 over_step t ts n s vs e Wrong w below h = cc
 over_step t ts n s vs e (Next m n' s' vs') w below h =
     over_mark t ts n s vs e m n' s' vs' (passed m (bracket ts)) w below h
 
 -- where a limit is passed first: some value is read after the tokens up to that one, itself counted
-pub over : (ts : List Token) (n : ℕ) (s : List Part) (vs : List Value) (e : ParseError) → passes ts n s vs ≡ Some e
+pub over : (ts : List Token) (n : ℕ) (s : List Part) (vs : List ParsedValue) (e : ParseError) → passes ts n s vs ≡ Some e
     → Over ts s vs e
 unfolding passes
 over [] n s vs e h = cc

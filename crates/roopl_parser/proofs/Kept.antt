@@ -33,7 +33,7 @@ use Rattle.roopl_parser.specs.Grammar.{uncall, skip, IsBranches, branches, IsSco
 use Rattle.roopl_parser.specs.Grammar.{end as finish, then, IsMoreParams, last_param, next_param, IsParams, no_param}
 use Rattle.roopl_parser.specs.Grammar.{params as some_params, IsMethod, method, IsMethods, no_method, methods, IsClass}
 use Rattle.roopl_parser.specs.Grammar.{class, IsClasses, no_class, classes}
-use Rattle.roopl_parser.specs.Reader.{Value, Part, Mark, Within, AnExpr, AnIdent, APlace, AType, AVar, Vars, ACreation}
+use Rattle.roopl_parser.specs.Reader.{ParsedValue, Part, Mark, Within, AnExpr, AnIdent, APlace, AType, AVar, Vars, ACreation}
 use Rattle.roopl_parser.specs.Reader.{AStatement, Many, ABlock, AParent, Methods, Classes, AWord, ASign, AName, Level}
 use Rattle.roopl_parser.specs.Reader.{More, Index, Spot, Kind, Brackets, Made, Sized, Single, Block, Stmts, Assign}
 use Rattle.roopl_parser.specs.Reader.{Branches, Scope, Receiver, Params, Param, MoreParams, Count, Build, Parent}
@@ -45,7 +45,7 @@ use Rattle.roopl_parser.specs.Fits.{Fits, BlockFits}
 use Rattle.roopl_parser.specs.Parens.{parens_of, index_parens, place_parens, made_parens, target_parens}
 use Rattle.roopl_parser.specs.Parens.{assigned_parens, statement_parens, branch_parens, scope_parens, block_parens}
 use Rattle.roopl_parser.specs.Parens.{list_parens, method_parens, methods_parens, class_parens, classes_parens}
-use Rattle.roopl_parser.specs.Reader.{Past, Element, at_most, node_mark, name_mark, parens_mark, nesting_mark}
+use Rattle.roopl_parser.specs.Reader.{Past, Element, mark_at_most, node_mark, name_mark, parens_mark, nesting_mark}
 use Rattle.roopl_parser.specs.Reader.{locals_mark, scope_mark, param_mark, class_mark, passed, stopped, led, scan, walk}
 use Rattle.roopl_parser.specs.Reader.{starts, is_word, is_sign, here, var_parts, field_parts, send_parts, branch_parts}
 use Rattle.roopl_parser.specs.Reader.{scope_end, class_parts, method_parts, more}
@@ -61,7 +61,7 @@ use Rattle.roopl_parser.proofs.Complete.{class_reads}
 
 -- ---- marks that stop nothing
 
-stopped_ok : (at : ℕ) (m : Option LimitKind) (next : Result Value ParseError) (q : Value) → stopped at m next ≡ Ok q
+stopped_ok : (at : ℕ) (m : Option LimitKind) (next : Result ParsedValue ParseError) (q : ParsedValue) → stopped at m next ≡ Ok q
     → (m ≡ None) × (next ≡ Ok q)
 stopped_ok at None next q h = (refl, h)
 stopped_ok at (Some which) next q h = cc
@@ -76,7 +76,7 @@ by_element true h = refl
 by_element false h = cc
 
 most_kept : (most count : ℕ) (which : LimitKind) (other : Mark) (b : Bool)
-    → passed (at_most most count which other) b ≡ None → (count < most) × (passed other b ≡ None)
+    → passed (mark_at_most most count which other) b ≡ None → (count < most) × (passed other b ≡ None)
 most_kept most count which other b h = let r = by_test (nat_lt count most) which other b h in
     (ltb-true count most r.0, r.1)
 
@@ -86,56 +86,56 @@ pub record Room (p n i : ℕ) : Type 0 where
   pub nodes : n ≤ MOST_NODES
   pub indexes : i ≤ MOST_INDEX_DEPTH
 
-module _ (end : ℕ) (q : Value) where
+module _ (end : ℕ) (q : ParsedValue) where
   -- reading goes on to the end
-  abbrev pub Good : List Token → ℕ → List Part → List Value → Type 0
+  abbrev pub Good : List Token → ℕ → List Part → List ParsedValue → Type 0
   Good ts n s vs = scan true end ts n s vs ≡ Ok q
 
-  node_in : (at n : ℕ) (b : Bool) (next : Result Value ParseError) → stopped at (passed (node_mark n) b) next ≡ Ok q
+  node_in : (at n : ℕ) (b : Bool) (next : Result ParsedValue ParseError) → stopped at (passed (node_mark n) b) next ≡ Ok q
       → (n < MOST_NODES) × (next ≡ Ok q)
   node_in at n b next h = let r = stopped_ok at (passed (node_mark n) b) next q h in
       ((most_kept MOST_NODES n limit.Nodes Within b r.0).0, r.1)
 
-  name_in : (at n i : ℕ) (b : Bool) (next : Result Value ParseError) → stopped at (passed (name_mark n i) b) next ≡ Ok q
+  name_in : (at n i : ℕ) (b : Bool) (next : Result ParsedValue ParseError) → stopped at (passed (name_mark n i) b) next ≡ Ok q
       → (n < MOST_NODES) × (next ≡ Ok q)
   name_in at n i b next h = let r = stopped_ok at (passed (name_mark n i) b) next q h in
       ((most_kept MOST_NODES n limit.Nodes (cond (nat_lt i MOST_INDEX_DEPTH) Within Element) b r.0).0, r.1)
 
-  item_in : (at n i : ℕ) (next : Result Value ParseError) → stopped at (passed (name_mark n i) true) next ≡ Ok q
+  item_in : (at n i : ℕ) (next : Result ParsedValue ParseError) → stopped at (passed (name_mark n i) true) next ≡ Ok q
       → (n < MOST_NODES) × (i < MOST_INDEX_DEPTH) × (next ≡ Ok q)
   item_in at n i next h =
       let r = stopped_ok at (passed (name_mark n i) true) next q h in
       let m = most_kept MOST_NODES n limit.Nodes (cond (nat_lt i MOST_INDEX_DEPTH) Within Element) true r.0 in
       (m.0, ltb-true i MOST_INDEX_DEPTH (by_element (nat_lt i MOST_INDEX_DEPTH) m.1), r.1)
 
-  parens_in : (at p : ℕ) (b : Bool) (next : Result Value ParseError) → stopped at (passed (parens_mark p) b) next ≡ Ok q
+  parens_in : (at p : ℕ) (b : Bool) (next : Result ParsedValue ParseError) → stopped at (passed (parens_mark p) b) next ≡ Ok q
       → (p < MOST_PARENS) × (next ≡ Ok q)
   parens_in at p b next h = let r = stopped_ok at (passed (parens_mark p) b) next q h in
       ((most_kept MOST_PARENS p limit.Parens Within b r.0).0, r.1)
 
-  nesting_in : (at d : ℕ) (b : Bool) (next : Result Value ParseError)
+  nesting_in : (at d : ℕ) (b : Bool) (next : Result ParsedValue ParseError)
       → stopped at (passed (nesting_mark d) b) next ≡ Ok q → (d < MOST_NESTING) × (next ≡ Ok q)
   nesting_in at d b next h = let r = stopped_ok at (passed (nesting_mark d) b) next q h in
       ((most_kept MOST_NESTING d limit.Nesting Within b r.0).0, r.1)
 
-  locals_in : (at l : ℕ) (b : Bool) (next : Result Value ParseError) → stopped at (passed (locals_mark l) b) next ≡ Ok q
+  locals_in : (at l : ℕ) (b : Bool) (next : Result ParsedValue ParseError) → stopped at (passed (locals_mark l) b) next ≡ Ok q
       → (l < MOST_LOCALS) × (next ≡ Ok q)
   locals_in at l b next h = let r = stopped_ok at (passed (locals_mark l) b) next q h in
       ((most_kept MOST_LOCALS l limit.Locals Within b r.0).0, r.1)
 
-  scope_in : (at d l : ℕ) (b : Bool) (next : Result Value ParseError)
+  scope_in : (at d l : ℕ) (b : Bool) (next : Result ParsedValue ParseError)
       → stopped at (passed (scope_mark d l) b) next ≡ Ok q → (d < MOST_NESTING) × (l < MOST_LOCALS) × (next ≡ Ok q)
   scope_in at d l b next h =
       let r = stopped_ok at (passed (scope_mark d l) b) next q h in
       let m = most_kept MOST_NESTING d limit.Nesting (locals_mark l) b r.0 in
       (m.0, (most_kept MOST_LOCALS l limit.Locals Within b m.1).0, r.1)
 
-  param_in : (at c : ℕ) (b : Bool) (next : Result Value ParseError) → stopped at (passed (param_mark c) b) next ≡ Ok q
+  param_in : (at c : ℕ) (b : Bool) (next : Result ParsedValue ParseError) → stopped at (passed (param_mark c) b) next ≡ Ok q
       → c < MOST_PARAMETERS
   param_in at c b next h = let r = stopped_ok at (passed (param_mark c) b) next q h in
       (most_kept MOST_PARAMETERS c limit.Parameters Within b r.0).0
 
-  class_in : (at c : ℕ) (b : Bool) (next : Result Value ParseError) → stopped at (passed (class_mark c) b) next ≡ Ok q
+  class_in : (at c : ℕ) (b : Bool) (next : Result ParsedValue ParseError) → stopped at (passed (class_mark c) b) next ≡ Ok q
       → (c < MOST_CLASSES) × (next ≡ Ok q)
   class_in at c b next h = let r = stopped_ok at (passed (class_mark c) b) next q h in
       ((most_kept MOST_CLASSES c limit.Classes Within b r.0).0, r.1)
@@ -143,7 +143,7 @@ module _ (end : ℕ) (q : Value) where
   -- ---- expressions
 
   more_step : (a : Span) (kind : TokenKind) (op : BinOp) (mid : List Token) (n k p i : ℕ) (s : List Part)
-      (vs : List Value) → operator_at (suc k) kind ≡ Some op → Good (tok a kind ∷ mid) n (More (suc k) p i ∷ s) vs
+      (vs : List ParsedValue) → operator_at (suc k) kind ≡ Some op → Good (tok a kind ∷ mid) n (More (suc k) p i ∷ s) vs
       → (n < MOST_NODES) × Good mid (suc n) (Level k p i ∷ Build (MakeBinary a.at op) ∷ More (suc k) p i ∷ s) vs
   unfolding scan walk
   more_step a kind op mid n k p i s vs o h =
@@ -153,7 +153,7 @@ module _ (end : ℕ) (q : Value) where
       (scan true end mid (suc n) (Level k p i ∷ Build (MakeBinary a.at op) ∷ More (suc k) p i ∷ s) vs) (sym e ∙ h)
 
   expr_kept : {k : ℕ} {ts rest : List Token} {e : Expression} (d : IsExpr k ts rest e) (p i n : ℕ) → Room p n i
-      → Below k rest → (s : List Part) (vs : List Value) → Good ts n (Level k p i ∷ s) vs
+      → Below k rest → (s : List Part) (vs : List ParsedValue) → Good ts n (Level k p i ∷ s) vs
       → Room (p + parens_of d) (n + nodes e) (i + index_depth e)
   unfolding scan walk
   expr_kept (number {a} {w} {rest}) p i n f b s vs h =
@@ -207,21 +207,21 @@ module _ (end : ℕ) (q : Value) where
       }
 
   value_kept : {ts rest : List Token} {e : Expression} (d : IsExpr 9 ts rest e) (p i n : ℕ) → Room p n i → Below 10 rest
-      → (s : List Part) (vs : List Value) → Good ts n (Level 9 p i ∷ s) vs
+      → (s : List Part) (vs : List ParsedValue) → Good ts n (Level 9 p i ∷ s) vs
       → Room (p + parens_of d) (n + nodes e) (i + index_depth e) × Good rest (n + nodes e) s (AnExpr e ∷ vs)
   value_kept {ts} {rest} d p i n f b s vs h =
       let m = expr_kept d p i n f (b.0, λ j l. b.1 j (omega arith)) s vs h in
       (m, sym (value_reads true end d p i n (λ t. m.parens) (λ t. m.nodes) (λ t. m.indexes) b s vs) ∙ h)
 
   -- the first token of an index
-  open_index : (x : Span) (ts : List Token) (n p i : ℕ) (s : List Part) (vs : List Value)
+  open_index : (x : Span) (ts : List Token) (n p i : ℕ) (s : List Part) (vs : List ParsedValue)
       → Good (tok x (Sign sign.LeftBracket) ∷ ts) n (Index p i ∷ s) vs
       → Good ts n (Level 9 p (suc i) ∷ ASign sign.RightBracket ∷ Build MakeElement ∷ s) vs
   unfolding scan walk
   open_index x ts n p i s vs h = h
 
   indexed_kept : {name : Ident} {ts rest : List Token} {l : Lvalue} (x : IsIndexed name ts rest l) (n : ℕ)
-      → n ≤ MOST_NODES → here (is_sign sign.LeftBracket) rest ≡ false → (s : List Part) (vs : List Value)
+      → n ≤ MOST_NODES → here (is_sign sign.LeftBracket) rest ≡ false → (s : List Part) (vs : List ParsedValue)
       → Good ts n (Index 0 0 ∷ s) (AnIdent name ∷ vs) → Room (index_parens x) (n + index_nodes l) (lvalue_index_depth l)
       × Good rest (n + index_nodes l) s (APlace l ∷ vs)
   indexed_kept (whole {name} {rest}) n f b s vs h =
@@ -242,7 +242,7 @@ module _ (end : ℕ) (q : Value) where
       )
 
   place_kept : {ts rest : List Token} {l : Lvalue} (x : IsPlace ts rest l) (n : ℕ) → n ≤ MOST_NODES
-      → here (is_sign sign.LeftBracket) rest ≡ false → (s : List Part) (vs : List Value) → Good ts n (Spot ∷ s) vs
+      → here (is_sign sign.LeftBracket) rest ≡ false → (s : List Part) (vs : List ParsedValue) → Good ts n (Spot ∷ s) vs
       → Room (place_parens x) (n + index_nodes l) (lvalue_index_depth l)
       × Good rest (n + index_nodes l) s (APlace l ∷ vs)
   place_kept (place {a} {name} {ts} i) n f b s vs h = indexed_kept i n f b s vs
@@ -250,24 +250,24 @@ module _ (end : ℕ) (q : Value) where
 
   -- ---- what is made
 
-  open_sized : (a : Span) (ts : List Token) (n : ℕ) (s : List Part) (vs : List Value)
+  open_sized : (a : Span) (ts : List Token) (n : ℕ) (s : List Part) (vs : List ParsedValue)
       → Good (tok a (Sign sign.LeftBracket) ∷ ts) n (Sized ∷ s) vs
       → Good ts n (Level 9 0 0 ∷ ASign sign.RightBracket ∷ Build MakeObjects ∷ s) vs
   unfolding scan walk
   open_sized a ts n s vs h = h
 
-  open_named : (a : Span) (name : List ℕ) (ts : List Token) (n : ℕ) (s : List Part) (vs : List Value)
+  open_named : (a : Span) (name : List ℕ) (ts : List Token) (n : ℕ) (s : List Part) (vs : List ParsedValue)
       → Good (tok a (Name name) ∷ ts) n (Made ∷ s) vs → Good ts n (Sized ∷ s) (AnIdent (ident a name) ∷ vs)
   unfolding scan walk
   open_named a name ts n s vs h = h
 
-  open_words : (a : Span) (ts : List Token) (n : ℕ) (s : List Part) (vs : List Value)
+  open_words : (a : Span) (ts : List Token) (n : ℕ) (s : List Part) (vs : List ParsedValue)
       → Good (tok a (Word word.Int) ∷ ts) n (Made ∷ s) vs → Good ts n
       (ASign sign.LeftBracket ∷ Level 9 0 0 ∷ ASign sign.RightBracket ∷ Build MakeInts ∷ s) vs
   unfolding scan walk
   open_words a ts n s vs h = h
 
-  made_room : {ts rest : List Token} {c : Creation} (x : IsMade ts rest c) (s : List Part) (vs : List Value)
+  made_room : {ts rest : List Token} {c : Creation} (x : IsMade ts rest c) (s : List Part) (vs : List ParsedValue)
       → Good ts 0 (Made ∷ s) vs → Room (made_parens x) (creation_nodes c) (creation_index_depth c)
   made_room (words {a} {b = y} {c = z} {ts} {rest} {e} d) s vs h =
       let k = open_words a (tok y (Sign sign.LeftBracket) ∷ ts) 0 s vs h in
@@ -287,7 +287,7 @@ module _ (end : ℕ) (q : Value) where
       record { parens = omega (arith, m.parens); nodes = omega (arith, m.nodes); indexes = omega (arith, m.indexes) }
 
   made_kept : {ts rest : List Token} {c : Creation} (x : IsMade ts rest c)
-      → here (is_sign sign.LeftBracket) rest ≡ false → (s : List Part) (vs : List Value) → Good ts 0 (Made ∷ s) vs
+      → here (is_sign sign.LeftBracket) rest ≡ false → (s : List Part) (vs : List ParsedValue) → Good ts 0 (Made ∷ s) vs
       → Room (made_parens x) (creation_nodes c) (creation_index_depth c)
       × Good rest (0 + creation_nodes c) s (ACreation c ∷ vs)
   made_kept x b s vs h = let m = made_room x s vs h in (
@@ -297,7 +297,7 @@ module _ (end : ℕ) (q : Value) where
 
   -- ---- statements without others
 
-  open_receiver : (at : ℕ) (back : Bool) (l : ℕ) (y : Span) (ts : List Token) (s : List Part) (vs : List Value)
+  open_receiver : (at : ℕ) (back : Bool) (l : ℕ) (y : Span) (ts : List Token) (s : List Part) (vs : List ParsedValue)
       → Good (tok y (Sign sign.LeftBracket) ∷ ts) 0 (Receiver at back l ∷ s) vs
       → (l < MOST_LOCALS) × Good ts 0 (Level 9 0 1 ∷ ASign sign.RightBracket ∷ Build MakeElement
       ∷ ASign sign.DoubleColon ∷ send_parts at back s) vs
@@ -308,7 +308,7 @@ module _ (end : ℕ) (q : Value) where
 
   target_kept : {at : ℕ} {back : Bool} {name : Ident} {ts rest : List Token} {x : Statement}
       (r : IsTarget at back name ts rest x) (d l : ℕ) → d < MOST_NESTING → l ≤ MOST_LOCALS
-      → (s : List Part) (vs : List Value) → Good ts 0 (Receiver at back l ∷ s) (AnIdent name ∷ vs)
+      → (s : List Part) (vs : List ParsedValue) → Good ts 0 (Receiver at back l ∷ s) (AnIdent name ∷ vs)
       → Fits d l x × (target_parens r ≤ MOST_PARENS)
   target_kept (own r) d l f g s vs h = (
     record {
@@ -345,7 +345,7 @@ module _ (end : ℕ) (q : Value) where
 
   assigned_kept : {at : ℕ} {p : Lvalue} {ts rest : List Token} {x : Statement} (r : IsAssigned at p ts rest x)
       (d l n : ℕ) → n ≡ index_nodes p → n ≤ MOST_NODES → lvalue_index_depth p ≤ MOST_INDEX_DEPTH → d < MOST_NESTING
-      → l ≤ MOST_LOCALS → Below 10 rest → (s : List Part) (vs : List Value) → Good ts n (Assign at ∷ s) (APlace p ∷ vs)
+      → l ≤ MOST_LOCALS → Below 10 rest → (s : List Part) (vs : List ParsedValue) → Good ts n (Assign at ∷ s) (APlace p ∷ vs)
       → Fits d l x × (assigned_parens r ≤ MOST_PARENS)
   assigned_kept {at} {p} (update {a} {kind} {op} {ts} {rest} {e} o v) d l n same most deep f g b s vs h =
       let room : Room 0 n 0 = record { parens = omega arith; nodes = most; indexes = omega arith } in
@@ -375,14 +375,14 @@ module _ (end : ℕ) (q : Value) where
 
   -- ---- the first tokens of statements
 
-  open_assign : (a : Span) (name : List ℕ) (ts : List Token) (n d l : ℕ) (s : List Part) (vs : List Value)
+  open_assign : (a : Span) (name : List ℕ) (ts : List Token) (n d l : ℕ) (s : List Part) (vs : List ParsedValue)
       → Good (tok a (Name name) ∷ ts) n (Single d l ∷ s) vs
       → (d < MOST_NESTING) × Good ts 0 (Index 0 0 ∷ Assign a.at ∷ Count 0 ∷ s) (AnIdent (ident a name) ∷ vs)
   unfolding scan walk
   open_assign a name ts n d l s vs h = nesting_in a.at d (here (is_sign sign.LeftBracket) ts)
       (scan true end ts 0 (Index 0 0 ∷ Assign a.at ∷ Count 0 ∷ s) (AnIdent (ident a name) ∷ vs)) h
 
-  open_if : (a : Span) (ts : List Token) (n d l : ℕ) (s : List Part) (vs : List Value)
+  open_if : (a : Span) (ts : List Token) (n d l : ℕ) (s : List Part) (vs : List ParsedValue)
       → Good (tok a (Word word.If) ∷ ts) n (Single d l ∷ s) vs
       → (d < MOST_NESTING) × Good ts 0 (Level 9 0 0 ∷ Branches word.Then word.Else word.Fi d l ∷ Build (MakeIf a.at)
       ∷ Count 0 ∷ s) vs
@@ -391,7 +391,7 @@ module _ (end : ℕ) (q : Value) where
       (scan true end ts 0 (Level 9 0 0 ∷ Branches word.Then word.Else word.Fi d l ∷ Build (MakeIf a.at) ∷ Count 0 ∷ s)
       vs) h
 
-  open_from : (a : Span) (ts : List Token) (n d l : ℕ) (s : List Part) (vs : List Value)
+  open_from : (a : Span) (ts : List Token) (n d l : ℕ) (s : List Part) (vs : List ParsedValue)
       → Good (tok a (Word word.From) ∷ ts) n (Single d l ∷ s) vs
       → (d < MOST_NESTING) × Good ts 0 (Level 9 0 0 ∷ Branches word.Do word.Loop word.Until d l ∷ Build (MakeFrom a.at)
       ∷ Count 0 ∷ s) vs
@@ -400,7 +400,7 @@ module _ (end : ℕ) (q : Value) where
       (scan true end ts 0 (Level 9 0 0 ∷ Branches word.Do word.Loop word.Until d l ∷ Build (MakeFrom a.at) ∷ Count 0
       ∷ s) vs) h
 
-  open_construct : (a : Span) (ts : List Token) (n d l : ℕ) (s : List Part) (vs : List Value)
+  open_construct : (a : Span) (ts : List Token) (n d l : ℕ) (s : List Part) (vs : List ParsedValue)
       → Good (tok a (Word word.Construct) ∷ ts) n (Single d l ∷ s) vs
       → (d < MOST_NESTING) × (l < MOST_LOCALS) × Good ts 0
       (AName ∷ AName ∷ Block (suc d) (suc l) ∷ AWord word.Destruct ∷ AName ∷ Build (MakeConstruct a.at) ∷ s) vs
@@ -409,7 +409,7 @@ module _ (end : ℕ) (q : Value) where
       (scan true end ts 0 (AName ∷ AName ∷ Block (suc d) (suc l) ∷ AWord word.Destruct ∷ AName
       ∷ Build (MakeConstruct a.at) ∷ s) vs) h
 
-  open_local : (a : Span) (ts : List Token) (n d l : ℕ) (s : List Part) (vs : List Value)
+  open_local : (a : Span) (ts : List Token) (n d l : ℕ) (s : List Part) (vs : List ParsedValue)
       → Good (tok a (Word word.Local) ∷ ts) n (Single d l ∷ s) vs
       → (d < MOST_NESTING) × (l < MOST_LOCALS) × Good ts 0
       (Kind ∷ var_parts (ASign sign.Equal ∷ Level 9 0 0 ∷ Scope d l ∷ Build (MakeLocal a.at) ∷ Count 0 ∷ s)) vs
@@ -418,49 +418,49 @@ module _ (end : ℕ) (q : Value) where
       (scan true end ts 0 (Kind ∷ var_parts (ASign sign.Equal ∷ Level 9 0 0 ∷ Scope d l ∷ Build (MakeLocal a.at)
       ∷ Count 0 ∷ s)) vs) h
 
-  open_new : (a : Span) (ts : List Token) (n d l : ℕ) (s : List Part) (vs : List Value)
+  open_new : (a : Span) (ts : List Token) (n d l : ℕ) (s : List Part) (vs : List ParsedValue)
       → Good (tok a (Word word.New) ∷ ts) n (Single d l ∷ s) vs
       → (d < MOST_NESTING) × Good ts 0 (Made ∷ Spot ∷ Build (MakeNew a.at) ∷ Count 0 ∷ s) vs
   unfolding scan walk
   open_new a ts n d l s vs h = nesting_in a.at d (here (is_sign sign.LeftBracket) ts)
       (scan true end ts 0 (Made ∷ Spot ∷ Build (MakeNew a.at) ∷ Count 0 ∷ s) vs) h
 
-  open_delete : (a : Span) (ts : List Token) (n d l : ℕ) (s : List Part) (vs : List Value)
+  open_delete : (a : Span) (ts : List Token) (n d l : ℕ) (s : List Part) (vs : List ParsedValue)
       → Good (tok a (Word word.Delete) ∷ ts) n (Single d l ∷ s) vs
       → (d < MOST_NESTING) × Good ts 0 (Made ∷ Spot ∷ Build (MakeDelete a.at) ∷ Count 0 ∷ s) vs
   unfolding scan walk
   open_delete a ts n d l s vs h = nesting_in a.at d (here (is_sign sign.LeftBracket) ts)
       (scan true end ts 0 (Made ∷ Spot ∷ Build (MakeDelete a.at) ∷ Count 0 ∷ s) vs) h
 
-  open_copy : (a : Span) (ts : List Token) (n d l : ℕ) (s : List Part) (vs : List Value)
+  open_copy : (a : Span) (ts : List Token) (n d l : ℕ) (s : List Part) (vs : List ParsedValue)
       → Good (tok a (Word word.Copy) ∷ ts) n (Single d l ∷ s) vs
       → (d < MOST_NESTING) × Good ts 0 (Kind ∷ Spot ∷ Spot ∷ Build (MakeCopy a.at) ∷ Count 0 ∷ s) vs
   unfolding scan walk
   open_copy a ts n d l s vs h = nesting_in a.at d (here (is_sign sign.LeftBracket) ts)
       (scan true end ts 0 (Kind ∷ Spot ∷ Spot ∷ Build (MakeCopy a.at) ∷ Count 0 ∷ s) vs) h
 
-  open_uncopy : (a : Span) (ts : List Token) (n d l : ℕ) (s : List Part) (vs : List Value)
+  open_uncopy : (a : Span) (ts : List Token) (n d l : ℕ) (s : List Part) (vs : List ParsedValue)
       → Good (tok a (Word word.Uncopy) ∷ ts) n (Single d l ∷ s) vs
       → (d < MOST_NESTING) × Good ts 0 (Kind ∷ Spot ∷ Spot ∷ Build (MakeUncopy a.at) ∷ Count 0 ∷ s) vs
   unfolding scan walk
   open_uncopy a ts n d l s vs h = nesting_in a.at d (here (is_sign sign.LeftBracket) ts)
       (scan true end ts 0 (Kind ∷ Spot ∷ Spot ∷ Build (MakeUncopy a.at) ∷ Count 0 ∷ s) vs) h
 
-  open_call : (a : Span) (ts : List Token) (n d l : ℕ) (s : List Part) (vs : List Value)
+  open_call : (a : Span) (ts : List Token) (n d l : ℕ) (s : List Part) (vs : List ParsedValue)
       → Good (tok a (Word word.Call) ∷ ts) n (Single d l ∷ s) vs
       → (d < MOST_NESTING) × Good ts 0 (AName ∷ Receiver a.at false l ∷ Count 0 ∷ s) vs
   unfolding scan walk
   open_call a ts n d l s vs h = nesting_in a.at d (here (is_sign sign.LeftBracket) ts)
       (scan true end ts 0 (AName ∷ Receiver a.at false l ∷ Count 0 ∷ s) vs) h
 
-  open_uncall : (a : Span) (ts : List Token) (n d l : ℕ) (s : List Part) (vs : List Value)
+  open_uncall : (a : Span) (ts : List Token) (n d l : ℕ) (s : List Part) (vs : List ParsedValue)
       → Good (tok a (Word word.Uncall) ∷ ts) n (Single d l ∷ s) vs
       → (d < MOST_NESTING) × Good ts 0 (AName ∷ Receiver a.at true l ∷ Count 0 ∷ s) vs
   unfolding scan walk
   open_uncall a ts n d l s vs h = nesting_in a.at d (here (is_sign sign.LeftBracket) ts)
       (scan true end ts 0 (AName ∷ Receiver a.at true l ∷ Count 0 ∷ s) vs) h
 
-  open_skip : (a : Span) (ts : List Token) (n d l : ℕ) (s : List Part) (vs : List Value)
+  open_skip : (a : Span) (ts : List Token) (n d l : ℕ) (s : List Part) (vs : List ParsedValue)
       → Good (tok a (Word word.Skip) ∷ ts) n (Single d l ∷ s) vs
       → (d < MOST_NESTING) × Good ts 0 s (AStatement (Skip a.at) ∷ vs)
   unfolding scan walk
@@ -471,7 +471,7 @@ module _ (end : ℕ) (q : Value) where
 
   mutual
     single_kept : {ts rest : List Token} {x : Statement} (r : IsStatement ts rest x) (d l n : ℕ) → l ≤ MOST_LOCALS
-        → Below 10 rest → (s : List Part) (vs : List Value) → Good ts n (Single d l ∷ s) vs
+        → Below 10 rest → (s : List Part) (vs : List ParsedValue) → Good ts n (Single d l ∷ s) vs
         → Fits d l x × (statement_parens r ≤ MOST_PARENS)
     single_kept (assign {a} {name} {ts} {p} i r) d l n g b s vs h =
         let k = open_assign a name ts n d l s vs h in
@@ -631,7 +631,7 @@ module _ (end : ℕ) (q : Value) where
     branches_kept : {first second third : Keyword} {ts rest : List Token} {x y : Statements} {e : Expression}
         (r : IsBranches first second third ts rest x y e) (d l n : ℕ) → starts (Word second) ≡ false
         → starts (Word third) ≡ false → n ≤ MOST_NODES → l ≤ MOST_LOCALS → Below 10 rest
-        → (s : List Part) (vs : List Value) → Good ts n (Branches first second third d l ∷ s) vs
+        → (s : List Part) (vs : List ParsedValue) → Good ts n (Branches first second third d l ∷ s) vs
         → BlockFits (suc d) l x × BlockFits (suc d) l y × Room (branch_parens r) (n + nodes e) (index_depth e)
     branches_kept {first} {second} {third} (branches {a} {b = b1} {c} {ts} {us} {vs = ws} {rest} {taken} {other} {e} r1
         r2 r3) d l n o2 o3 f g b s vs h =
@@ -661,7 +661,7 @@ module _ (end : ℕ) (q : Value) where
         )
 
     scope_kept : {ts rest : List Token} {x : Statements} {w : Var} {e : Expression} (r : IsScope ts rest x w e)
-        (d l n : ℕ) → n ≤ MOST_NODES → l < MOST_LOCALS → Below 10 rest → (s : List Part) (vs : List Value)
+        (d l n : ℕ) → n ≤ MOST_NODES → l < MOST_LOCALS → Below 10 rest → (s : List Part) (vs : List ParsedValue)
         → Good ts n (Scope d l ∷ s) vs → BlockFits (suc d) (suc l) x
         × Room (scope_parens r) (n + nodes e) (index_depth e)
     scope_kept (scope {a} {b = b1} {ts} {us} {vs = ws} {rest} {body} {w} {e} r v x) d l n f g b s vs h =
@@ -678,7 +678,7 @@ module _ (end : ℕ) (q : Value) where
         (k.0, record { parens = omega (arith, k.1, m.parens); nodes = m.nodes; indexes = omega (arith, m.indexes) })
 
     block_kept : {ts rest : List Token} {x : Statements} (r : IsBlock ts rest x) (d l n : ℕ) → l ≤ MOST_LOCALS
-        → Below 10 rest → here starts rest ≡ false → (s : List Part) (vs : List Value) → Good ts n (Block d l ∷ s) vs
+        → Below 10 rest → here starts rest ≡ false → (s : List Part) (vs : List ParsedValue) → Good ts n (Block d l ∷ s) vs
         → BlockFits d l x × (block_parens r ≤ MOST_PARENS)
     block_kept (block {ts} {mid} {rest} {x} {xs} r rs) d l n g b o s vs h =
         let h1 = sym (run_block true end ts n d l s vs) ∙ h in
@@ -700,7 +700,7 @@ module _ (end : ℕ) (q : Value) where
 
     statements_kept : {ts rest : List Token} {xs : List Statement} (rs : IsStatements ts rest xs) (d l : ℕ)
         → d ≤ MOST_NESTING → l ≤ MOST_LOCALS → Below 10 rest → here starts rest ≡ false
-        → (s : List Part) (ys : List Statement) (vs : List Value) → Good ts 0 (Stmts d l ∷ s) (Many ys ∷ vs)
+        → (s : List Part) (ys : List Statement) (vs : List ParsedValue) → Good ts 0 (Stmts d l ∷ s) (Many ys ∷ vs)
         → BlockFits d l (statements_of xs) × (list_parens rs ≤ MOST_PARENS)
     statements_kept (finish {rest}) d l f g b o s ys vs h =
         (record { nested = omega (arith, f); held = omega (arith, g); small = tt }, omega arith)
@@ -724,30 +724,30 @@ module _ (end : ℕ) (q : Value) where
 
   -- ---- classes
 
-  open_param_int : (a : Span) (ts : List Token) (n c : ℕ) (s : List Part) (vs : List Value)
+  open_param_int : (a : Span) (ts : List Token) (n c : ℕ) (s : List Part) (vs : List ParsedValue)
       → Good (tok a (Word word.Int) ∷ ts) n (Param c ∷ s) vs → c < MOST_PARAMETERS
   unfolding scan walk
   open_param_int a ts n c s vs h = param_in a.at c (here (is_sign sign.LeftBracket) ts)
       (scan true end ts n (Brackets ∷ field_parts s) (AType kind.Int ∷ vs)) h
 
-  open_param_class : (a : Span) (name : List ℕ) (ts : List Token) (n c : ℕ) (s : List Part) (vs : List Value)
+  open_param_class : (a : Span) (name : List ℕ) (ts : List Token) (n c : ℕ) (s : List Part) (vs : List ParsedValue)
       → Good (tok a (Name name) ∷ ts) n (Param c ∷ s) vs → c < MOST_PARAMETERS
   unfolding scan walk
   open_param_class a name ts n c s vs h = param_in a.at c (here (is_sign sign.LeftBracket) ts)
       (scan true end ts n (Brackets ∷ field_parts s) (AType (kind.Class (ident a name)) ∷ vs)) h
 
-  param_kept : {ts rest : List Token} {v : Var} (x : IsVar ts rest v) (n c : ℕ) (s : List Part) (vs : List Value)
+  param_kept : {ts rest : List Token} {v : Var} (x : IsVar ts rest v) (n c : ℕ) (s : List Part) (vs : List ParsedValue)
       → Good ts n (Param c ∷ s) vs → c < MOST_PARAMETERS
   param_kept (var (ints {a} {ts} x)) n c s vs h = open_param_int a ts n c s vs h
   param_kept (var (objects {a} {name} {ts} x)) n c s vs h = open_param_class a name ts n c s vs h
 
-  open_comma : (a : Span) (ts : List Token) (n c : ℕ) (s : List Part) (vs : List Value)
+  open_comma : (a : Span) (ts : List Token) (n c : ℕ) (s : List Part) (vs : List ParsedValue)
       → Good (tok a (Sign sign.Comma) ∷ ts) n (MoreParams c ∷ s) vs → Good ts n (Param c ∷ MoreParams (suc c) ∷ s) vs
   unfolding scan walk
   open_comma a ts n c s vs h = h
 
   more_params_kept : {ts rest : List Token} {xs : List Var} (x : IsMoreParams ts rest xs) (n c : ℕ)
-      → c ≤ MOST_PARAMETERS → (s : List Part) (ys : List Var) (vs : List Value)
+      → c ≤ MOST_PARAMETERS → (s : List Part) (ys : List Var) (vs : List ParsedValue)
       → Good ts n (MoreParams c ∷ s) (Vars ys ∷ vs) → c + length xs ≤ MOST_PARAMETERS
   more_params_kept (last_param {a} {rest}) n c f s ys vs h = omega (arith, f)
   more_params_kept (next_param {a} {ts} {mid} {rest} {v} {xs} x m) n c f s ys vs h =
@@ -758,7 +758,7 @@ module _ (end : ℕ) (q : Value) where
       omega (arith, r)
 
   params_kept : {ts rest : List Token} {xs : List Var} (x : IsParams ts rest xs) (n : ℕ) (s : List Part)
-      (vs : List Value) → Good ts n (Params ∷ s) vs → length xs ≤ MOST_PARAMETERS
+      (vs : List ParsedValue) → Good ts n (Params ∷ s) vs → length xs ≤ MOST_PARAMETERS
   params_kept (no_param {a} {rest}) n s vs h = omega arith
   params_kept (some_params {ts} {mid} {v} {xs} x m) n s vs h =
       let h1 = sym (first_param true end x n s vs) ∙ h in
@@ -767,7 +767,7 @@ module _ (end : ℕ) (q : Value) where
       omega (arith, r)
 
   method_kept : {ts rest : List Token} {x : Procedure} (r : IsMethod ts rest x) → Below 10 rest
-      → here starts rest ≡ false → (s : List Part) (xs : List Procedure) (vs : List Value)
+      → here starts rest ≡ false → (s : List Part) (xs : List Procedure) (vs : List ParsedValue)
       → Good ts 0 (AWord word.Method ∷ method_parts s) (Methods xs ∷ vs)
       → IsSmallMethod x × (method_parens r ≤ MOST_PARENS)
   method_kept (method {a} {b = b1} {c} {name} {ts} {us} {rest} {ps} {body} p r) b o s xs vs h =
@@ -793,7 +793,7 @@ module _ (end : ℕ) (q : Value) where
       )
 
   methods_kept : {ts rest : List Token} {xs : List Procedure} (r : IsMethods ts rest xs) → Closed true end rest
-      → (s : List Part) (ys : List Procedure) (vs : List Value) → Good ts 0 (Procedures ∷ s) (Methods ys ∷ vs)
+      → (s : List Part) (ys : List Procedure) (vs : List ParsedValue) → Good ts 0 (Procedures ∷ s) (Methods ys ∷ vs)
       → All IsSmallMethod xs × (methods_parens r ≤ MOST_PARENS)
   methods_kept (no_method {rest}) c s ys vs h = (All-nil IsSmallMethod, omega arith)
   methods_kept (methods {ts} {mid} {rest} {x} {xs} r rs) c s ys vs h =
@@ -804,7 +804,7 @@ module _ (end : ℕ) (q : Value) where
       (Procedures ∷ s) ys vs) ∙ h1) in
       (All-cons IsSmallMethod x xs m.0 f.0, omega (arith, m.1, f.1))
 
-  open_class : (a : Span) (ts : List Token) (c : ℕ) (s : List Part) (vs : List Value)
+  open_class : (a : Span) (ts : List Token) (c : ℕ) (s : List Part) (vs : List ParsedValue)
       → Good (tok a (Word word.Class) ∷ ts) 0 (Program c ∷ s) vs
       → (c < MOST_CLASSES) × Good ts 0 (class_parts (Program (suc c) ∷ s)) vs
   unfolding scan walk
@@ -812,7 +812,7 @@ module _ (end : ℕ) (q : Value) where
       (scan true end ts 0 (class_parts (Program (suc c) ∷ s)) vs) h
 
   class_kept : {ts rest : List Token} {x : ClassText} (r : IsClass ts rest x) (c : ℕ) → Closed true end rest
-      → here (is_word word.Method) rest ≡ false → (s : List Part) (xs : List ClassText) (vs : List Value)
+      → here (is_word word.Method) rest ≡ false → (s : List Part) (xs : List ClassText) (vs : List ParsedValue)
       → Good ts 0 (Program c ∷ s) (Classes xs ∷ vs) → (c < MOST_CLASSES) × All IsSmallMethod x.methods
       × (class_parens r ≤ MOST_PARENS)
   class_kept (class {a} {b = b1} {name} {ts} {us} {vs = ws} {rest} {p} {fs} {ms} r1 r2 r3) c k b s xs vs h =
@@ -833,7 +833,7 @@ module _ (end : ℕ) (q : Value) where
 
   pub classes_kept : {ts rest : List Token} {xs : List ClassText} (r : IsClasses ts rest xs) (c : ℕ) → c ≤ MOST_CLASSES
       → Closed true end rest → here (is_word word.Method) rest ≡ false
-      → (s : List Part) (ys : List ClassText) (vs : List Value) → Good ts 0 (Program c ∷ s) (Classes ys ∷ vs)
+      → (s : List Part) (ys : List ClassText) (vs : List ParsedValue) → Good ts 0 (Program c ∷ s) (Classes ys ∷ vs)
       → (c + length xs ≤ MOST_CLASSES) × All (λ text. All IsSmallMethod text.methods) xs
       × (classes_parens r ≤ MOST_PARENS)
   classes_kept (no_class {rest}) c f k b s ys vs h = (

@@ -28,7 +28,7 @@ use Rattle.roopl_lexer.specs.declared.token.Token.{Token}
 use Rattle.roopl_lexer.specs.declared.token.TokenKind.{TokenKind}
 use Rattle.roopl_lexer.specs.declared.token.TokenKind.TheVariants.{Word, Name, Number, Sign}
 use Rattle.roopl_lexer.specs.declared.token.Keyword.{Keyword}
-use Rattle.roopl_lexer.specs.Readable.{IsNamed, name_length}
+use Rattle.roopl_lexer.specs.Readable.{IsNameToken, name_length}
 use Rattle.roopl_lexer.specs.Tokens.{is_too_large, comment_length, IsCutting, Cut, finish, white, comment, token}
 use Rattle.roopl_lexer.specs.Tokens.{bad_byte, too_large}
 use Rattle.rpp_tree.specs.Refusal.{Refusal}
@@ -43,8 +43,8 @@ use Rattle.rpp_tree.specs.declared.limits.LimitKind.TheVariants as limit
 use Rattle.roopl_parser.specs.declared.error.ParseError.{ParseError}
 use Rattle.roopl_parser.specs.declared.error.ParseError.TheVariants.{Limit}
 use Rattle.roopl_parser.specs.Reader.{Classes, Program}
-use Rattle.roopl_parser.specs.Viable.{IsSmall, first_limit, or_else, passes, place_of}
-use Rattle.roopl_parser.specs.Readable.{AreSmall, IsReadable}
+use Rattle.roopl_parser.specs.Viable.{IsSmall, first_limit, or_else, passes, offset_at}
+use Rattle.roopl_parser.specs.Readable.{AreSmallTokens, IsReadable}
 use Rattle.rpp_tree.specs.Numbers.{expression_numbers, lvalue_numbers, creation_numbers, statement_numbers}
 use Rattle.rpp_tree.specs.Numbers.{block_numbers, procedure_numbers, class_numbers, source_numbers}
 
@@ -404,7 +404,7 @@ places_of : (P : ℕ → Type 0) (ts : List Token) → AllByRecursion (λ (t : T
 places_of P [] h = tt
 places_of P (t ∷ ts) h = (h.0, places_of P ts h.1)
 
-names_first : (at : ℕ) (kind : TokenKind) (ns : List Ident) → IsNamed kind
+names_first : (at : ℕ) (kind : TokenKind) (ns : List Ident) → IsNameToken kind
     → AllByRecursion (λ (name : Ident). IsName name.text) ns
     → AllByRecursion (λ (name : Ident). IsName name.text) (named_at at kind ++ ns)
 names_first at (Word w) ns h k = k
@@ -412,7 +412,7 @@ names_first at (Name text) ns h k = (h, k)
 names_first at (Number n) ns h k = k
 names_first at (Sign sign) ns h k = k
 
-names_of : (ts : List Token) → AllByRecursion (λ (t : Token). IsNamed t.kind) ts
+names_of : (ts : List Token) → AllByRecursion (λ (t : Token). IsNameToken t.kind) ts
     → AllByRecursion (λ (name : Ident). IsName name.text) (token_names ts)
 names_of [] h = tt
 names_of (t ∷ ts) h = names_first t.at t.kind (token_names ts) h.0 (names_of ts h.1)
@@ -446,7 +446,7 @@ few_where false e other none = refl
 pub few_tokens : (tokens : List Token) → first_limit tokens ≡ None → length tokens ≤ MOST_TOKENS
 few_tokens tokens none =
     ltb-false MOST_TOKENS (length tokens)
-    (few_where (nat_lt MOST_TOKENS (length tokens)) (Limit limit.Tokens (place_of 0 (drop MOST_TOKENS tokens)))
+    (few_where (nat_lt MOST_TOKENS (length tokens)) (Limit limit.Tokens (offset_at 0 (drop MOST_TOKENS tokens)))
     (passes tokens 0 (Program 0 ∷ []) (Classes [] ∷ [])) none)
 
 -- ---- the number literals
@@ -464,7 +464,7 @@ small_of [] h = tt
 small_of (t ∷ ts) h = small_first t.kind (token_numbers ts) h.0 (small_of ts h.1)
 
 -- if every number token is small enough, every literal is
-pub small_numbers : (tokens : List Token) (source : Source) → Derives tokens source → AreSmall tokens
+pub small_numbers : (tokens : List Token) (source : Source) → Derives tokens source → AreSmallTokens tokens
     → All (λ w. w ≤ MOST_NUMBER) (source_numbers source)
 small_numbers tokens source derives small =
     All-from_recursion (λ w. w ≤ MOST_NUMBER) (source_numbers source)
@@ -474,7 +474,7 @@ small_numbers tokens source derives small =
 -- ---- what holds for the syntax tree
 
 pub within_limits : (tokens : List Token) (source : Source) (bytes : ℕ) → Derives tokens source → IsSmall source
-    → length tokens ≤ MOST_TOKENS → IsReadable tokens bytes → AreSmall tokens → IsWithinLimits source
+    → length tokens ≤ MOST_TOKENS → IsReadable tokens bytes → AreSmallTokens tokens → IsWithinLimits source
 within_limits tokens source bytes derives small few readable numbers =
     let parts = source_parts (λ at. at < MOST_BYTES) tokens source derives in
     let same = names_are tokens source derives in
@@ -487,7 +487,7 @@ within_limits tokens source bytes derives small few readable numbers =
           (recursion_from_All (λ (t : Token). t.at < MOST_BYTES) tokens readable.places))).0;
       names = All-from_recursion (λ (name : Ident). IsName name.text) (source_names source)
           (subst (AllByRecursion (λ (name : Ident). IsName name.text)) same
-          (names_of tokens (recursion_from_All (λ (t : Token). IsNamed t.kind) tokens readable.names)));
+          (names_of tokens (recursion_from_All (λ (t : Token). IsNameToken t.kind) tokens readable.names)));
       name_bytes =
           let all = bytes_same tokens in
           let moved = ap bytes_of same in

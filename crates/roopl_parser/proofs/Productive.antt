@@ -14,7 +14,7 @@ use Rattle.roopl_lexer.specs.declared.token.Symbol.TheVariants as sign
 use Rattle.roopl_parser.specs.Operators.{Span, tok, ident}
 use Rattle.roopl_parser.specs.Grammar.{IsExpr, number, weaker, whole, place, plain, ints, IsVar, var, one, named, none}
 use Rattle.roopl_parser.specs.Grammar.{own, swap, skip, branches, scope, IsBlock, block, end, no_param, alone}
-use Rattle.roopl_parser.specs.Reader.{Value, Part, AnExpr, AnIdent, Idents, APlace, AType, AVar, Vars, ACreation}
+use Rattle.roopl_parser.specs.Reader.{ParsedValue, Part, AnExpr, AnIdent, Idents, APlace, AType, AVar, Vars, ACreation}
 use Rattle.roopl_parser.specs.Reader.{AStatement, ABlock, AParent, AWord, ASign, AName, Level, More, Index, Spot, Kind}
 use Rattle.roopl_parser.specs.Reader.{Brackets, Made, Sized, Single, Block, Stmts, Assign, Branches, Scope, Receiver}
 use Rattle.roopl_parser.specs.Reader.{Args, MoreArgs, Params, Param, MoreParams, Count, Build, Parent, Fields}
@@ -44,7 +44,7 @@ skip_block rest = block skip end
 int_var : (rest : List Token) → IsVar (tok here (Word word.Int) ∷ tok here (Name []) ∷ rest) rest nothing
 int_var rest = var (ints plain)
 
-pub productive : (s : List Part) (vs : List Value) → (more : List Token) × (q : Value) × Gen s vs more q
+pub productive : (s : List Part) (vs : List ParsedValue) → (more : List Token) × (q : ParsedValue) × Gen s vs more q
 productive [] vs = ([], top vs, (refl, refl))
 productive (AWord w ∷ s) vs = let r = productive s vs in (tok here (Word w) ∷ r.0, r.1, (here, r.0, refl, r.2))
 productive (ASign w ∷ s) vs = let r = productive s vs in (tok here (Sign w) ∷ r.0, r.1, (here, r.0, refl, r.2))

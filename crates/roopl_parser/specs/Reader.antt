@@ -31,21 +31,21 @@ use Rattle.roopl_parser.specs.Operators.{operator_at, update_operator}
 use Rattle.roopl_parser.specs.Grammar.{lvalue_read, array_of}
 
 -- what has been read
-pub data Value : Type 0 where
-  AnExpr : Expression → Value
-  AnIdent : Ident → Value
-  Idents : List Ident → Value
-  APlace : Lvalue → Value
-  AType : VarType → Value
-  AVar : Var → Value
-  Vars : List Var → Value
-  ACreation : Creation → Value
-  AStatement : Statement → Value
-  Many : List Statement → Value
-  ABlock : Statements → Value
-  AParent : Option Ident → Value
-  Methods : List Procedure → Value
-  Classes : List ClassText → Value
+pub data ParsedValue : Type 0 where
+  AnExpr : Expression → ParsedValue
+  AnIdent : Ident → ParsedValue
+  Idents : List Ident → ParsedValue
+  APlace : Lvalue → ParsedValue
+  AType : VarType → ParsedValue
+  AVar : Var → ParsedValue
+  Vars : List Var → ParsedValue
+  ACreation : Creation → ParsedValue
+  AStatement : Statement → ParsedValue
+  Many : List Statement → ParsedValue
+  ABlock : Statements → ParsedValue
+  AParent : Option Ident → ParsedValue
+  Methods : List Procedure → ParsedValue
+  Classes : List ClassText → ParsedValue
 
 -- what is made of the last values
 pub data Rule : Type 0 where
@@ -124,88 +124,88 @@ pub data Mark : Type 0 where
 -- one token: it is wrong here, or leads on
 pub data Step : Type 0 where
   Wrong : Step
-  Next : (mark : Mark) (nodes : ℕ) (stack : List Part) (values : List Value) → Step
+  Next : (mark : Mark) (nodes : ℕ) (stack : List Part) (values : List ParsedValue) → Step
 
 abbrev pub nameless : Ident
 nameless = record { at = 0; text = [] }
 
-abbrev pub as_expr : Value → Expression
+abbrev pub as_expr : ParsedValue → Expression
 as_expr (AnExpr e) = e
 as_expr _ = Number 0 0
 
-abbrev pub as_name : Value → Ident
+abbrev pub as_name : ParsedValue → Ident
 as_name (AnIdent x) = x
 as_name _ = nameless
 
-abbrev pub as_names : Value → List Ident
+abbrev pub as_names : ParsedValue → List Ident
 as_names (Idents xs) = xs
 as_names _ = []
 
-abbrev pub as_place : Value → Lvalue
+abbrev pub as_place : ParsedValue → Lvalue
 as_place (APlace x) = x
 as_place _ = Whole nameless
 
-abbrev pub as_type : Value → VarType
+abbrev pub as_type : ParsedValue → VarType
 as_type (AType x) = x
 as_type _ = kind.Int
 
-abbrev pub as_var : Value → Var
+abbrev pub as_var : ParsedValue → Var
 as_var (AVar x) = x
 as_var _ = record { kind = kind.Int; name = nameless }
 
-abbrev pub as_vars : Value → List Var
+abbrev pub as_vars : ParsedValue → List Var
 as_vars (Vars xs) = xs
 as_vars _ = []
 
-abbrev pub as_creation : Value → Creation
+abbrev pub as_creation : ParsedValue → Creation
 as_creation (ACreation x) = x
 as_creation _ = Object nameless
 
-abbrev pub as_statement : Value → Statement
+abbrev pub as_statement : ParsedValue → Statement
 as_statement (AStatement x) = x
 as_statement _ = Skip 0
 
-abbrev pub as_many : Value → List Statement
+abbrev pub as_many : ParsedValue → List Statement
 as_many (Many xs) = xs
 as_many _ = []
 
-abbrev pub as_block : Value → Statements
+abbrev pub as_block : ParsedValue → Statements
 as_block (ABlock x) = x
 as_block _ = End
 
-abbrev pub as_parent : Value → Option Ident
+abbrev pub as_parent : ParsedValue → Option Ident
 as_parent (AParent x) = x
 as_parent _ = None
 
-abbrev pub as_methods : Value → List Procedure
+abbrev pub as_methods : ParsedValue → List Procedure
 as_methods (Methods xs) = xs
 as_methods _ = []
 
-abbrev pub as_classes : Value → List ClassText
+abbrev pub as_classes : ParsedValue → List ClassText
 as_classes (Classes xs) = xs
 as_classes _ = []
 
-abbrev pub top : List Value → Value
+abbrev pub top : List ParsedValue → ParsedValue
 top [] = AnExpr (Number 0 0)
 top (v ∷ vs) = v
 
-abbrev pub under : List Value → List Value
+abbrev pub under : List ParsedValue → List ParsedValue
 under [] = []
 under (v ∷ vs) = vs
 
-abbrev pub second : List Value → Value
+abbrev pub second : List ParsedValue → ParsedValue
 second vs = top (under vs)
 
-abbrev pub third : List Value → Value
+abbrev pub third : List ParsedValue → ParsedValue
 third vs = top (under (under vs))
 
-abbrev pub fourth : List Value → Value
+abbrev pub fourth : List ParsedValue → ParsedValue
 fourth vs = top (under (under (under vs)))
 
-abbrev pub fifth : List Value → Value
+abbrev pub fifth : List ParsedValue → ParsedValue
 fifth vs = top (under (under (under (under vs))))
 
-abbrev pub build : Rule → List Value → List Value
+abbrev pub build : Rule → List ParsedValue → List ParsedValue
 build MakeRead vs = AnExpr (lvalue_read (as_place (top vs))) ∷ under vs
 build MakeWhole vs = APlace (Whole (as_name (top vs))) ∷ under vs
 build MakeElement vs = APlace (Item (as_name (second vs)) (as_expr (top vs))) ∷ under (under vs)
@@ -271,41 +271,41 @@ build MakeClass vs =
     ∷ under (under (under (under (under vs))))
 
 -- the limits: a count passes its limit if it is already equal to it
-abbrev pub at_most : ℕ → ℕ → LimitKind → Mark → Mark
-at_most most count which other = cond (nat_lt count most) other (Past which)
+abbrev pub mark_at_most : ℕ → ℕ → LimitKind → Mark → Mark
+mark_at_most most count which other = cond (nat_lt count most) other (Past which)
 
 abbrev pub node_mark : ℕ → Mark
-node_mark n = at_most MOST_NODES n limit.Nodes Within
+node_mark n = mark_at_most MOST_NODES n limit.Nodes Within
 
 -- a name is a node too, and in too many indexes it may have none itself
 abbrev pub name_mark : (n i : ℕ) → Mark
-name_mark n i = at_most MOST_NODES n limit.Nodes (cond (nat_lt i MOST_INDEX_DEPTH) Within Element)
+name_mark n i = mark_at_most MOST_NODES n limit.Nodes (cond (nat_lt i MOST_INDEX_DEPTH) Within Element)
 
 abbrev pub parens_mark : ℕ → Mark
-parens_mark p = at_most MOST_PARENS p limit.Parens Within
+parens_mark p = mark_at_most MOST_PARENS p limit.Parens Within
 
 abbrev pub nesting_mark : ℕ → Mark
-nesting_mark d = at_most MOST_NESTING d limit.Nesting Within
+nesting_mark d = mark_at_most MOST_NESTING d limit.Nesting Within
 
 abbrev pub locals_mark : ℕ → Mark
-locals_mark l = at_most MOST_LOCALS l limit.Locals Within
+locals_mark l = mark_at_most MOST_LOCALS l limit.Locals Within
 
 -- a statement that makes a local is nested and has a local
 abbrev pub scope_mark : (d l : ℕ) → Mark
-scope_mark d l = at_most MOST_NESTING d limit.Nesting (locals_mark l)
+scope_mark d l = mark_at_most MOST_NESTING d limit.Nesting (locals_mark l)
 
 abbrev pub param_mark : ℕ → Mark
-param_mark c = at_most MOST_PARAMETERS c limit.Parameters Within
+param_mark c = mark_at_most MOST_PARAMETERS c limit.Parameters Within
 
 abbrev pub class_mark : ℕ → Mark
-class_mark c = at_most MOST_CLASSES c limit.Classes Within
+class_mark c = mark_at_most MOST_CLASSES c limit.Classes Within
 
 -- the operators of the levels up to k that may follow an operand
 abbrev pub mores : ℕ → ℕ → ℕ → List Part → List Part
 mores zero p i s = s
 mores (suc k) p i s = mores k p i (More (suc k) p i ∷ s)
 
-abbrev pub operand : (k p i : ℕ) → List Part → ℕ → List Value → ℕ → TokenKind → Step
+abbrev pub operand : (k p i : ℕ) → List Part → ℕ → List ParsedValue → ℕ → TokenKind → Step
 operand k p i s n vs at (token.Number w) =
     Next (node_mark n) (suc n) (mores k p i s) (AnExpr (Number at w) ∷ vs)
 operand k p i s n vs at (token.Word word.Nil) =
@@ -317,18 +317,18 @@ operand k p i s n vs at (token.Sign sign.LeftParen) =
     Next (parens_mark p) n (Level 9 (suc p) i ∷ ASign sign.RightParen ∷ mores k p i s) vs
 operand k p i s n vs at _ = Wrong
 
-abbrev pub more : (k p i : ℕ) → List Part → ℕ → List Value → ℕ → Step → Option BinOp → Step
+abbrev pub more : (k p i : ℕ) → List Part → ℕ → List ParsedValue → ℕ → Step → Option BinOp → Step
 more k p i s n vs at other None = other
 more k p i s n vs at other (Some op) =
     Next (node_mark n) (suc n) (Level (pred k) p i ∷ Build (MakeBinary at op) ∷ More k p i ∷ s) vs
 
 -- an index, or nothing: `other` goes on after nothing
-abbrev pub index : (p i : ℕ) → List Part → ℕ → List Value → Step → TokenKind → Step
+abbrev pub index : (p i : ℕ) → List Part → ℕ → List ParsedValue → Step → TokenKind → Step
 index p i s n vs other (token.Sign sign.LeftBracket) =
     Next Within n (Level 9 p (suc i) ∷ ASign sign.RightBracket ∷ Build MakeElement ∷ s) vs
 index p i s n vs other _ = other
 
-abbrev pub name : List Part → ℕ → List Value → ℕ → TokenKind → Step
+abbrev pub name : List Part → ℕ → List ParsedValue → ℕ → TokenKind → Step
 name s n vs at (token.Name x) = Next Within n s (AnIdent (record { at = at; text = x }) ∷ vs)
 name s n vs at _ = Wrong
 
@@ -339,26 +339,26 @@ types (token.Word word.Int) = true
 types _ = false
 
 -- the first token of a type, or other
-abbrev pub a_type : List Part → ℕ → List Value → ℕ → Mark → Step → TokenKind → Step
+abbrev pub a_type : List Part → ℕ → List ParsedValue → ℕ → Mark → Step → TokenKind → Step
 a_type s n vs at mark other (token.Name x) =
     Next mark n (Brackets ∷ s) (AType (kind.Class (record { at = at; text = x })) ∷ vs)
 a_type s n vs at mark other (token.Word word.Int) = Next mark n (Brackets ∷ s) (AType kind.Int ∷ vs)
 a_type s n vs at mark other _ = other
 
-abbrev pub brackets : List Part → ℕ → List Value → Step → TokenKind → Step
+abbrev pub brackets : List Part → ℕ → List ParsedValue → Step → TokenKind → Step
 brackets s n vs other (token.Sign sign.LeftBracket) =
     Next Within n (ASign sign.RightBracket ∷ Build MakeArray ∷ s) vs
 brackets s n vs other _ = other
 
-abbrev pub made : List Part → ℕ → List Value → ℕ → TokenKind → Step
-made s n vs at (token.Name x) = Next Within n (Sized ∷ s)
+abbrev pub made_read : List Part → ℕ → List ParsedValue → ℕ → TokenKind → Step
+made_read s n vs at (token.Name x) = Next Within n (Sized ∷ s)
     (AnIdent (record { at = at; text = x }) ∷ vs)
-made s n vs at (token.Word word.Int) =
+made_read s n vs at (token.Word word.Int) =
     Next Within n (ASign sign.LeftBracket ∷ Level 9 0 0 ∷ ASign sign.RightBracket ∷ Build MakeInts
     ∷ s) vs
-made s n vs at _ = Wrong
+made_read s n vs at _ = Wrong
 
-abbrev pub sized : List Part → ℕ → List Value → Step → TokenKind → Step
+abbrev pub sized : List Part → ℕ → List ParsedValue → Step → TokenKind → Step
 sized s n vs other (token.Sign sign.LeftBracket) =
     Next Within n (Level 9 0 0 ∷ ASign sign.RightBracket ∷ Build MakeObjects ∷ s) vs
 sized s n vs other _ = other
@@ -384,7 +384,7 @@ abbrev pub var_parts : List Part → List Part
 var_parts s = AName ∷ Build MakeVar ∷ s
 
 -- the first token of a statement with d statements and l locals around it, or other
-abbrev pub statement : (d l : ℕ) → List Part → List Value → ℕ → Step → TokenKind → Step
+abbrev pub statement : (d l : ℕ) → List Part → List ParsedValue → ℕ → Step → TokenKind → Step
 statement d l s vs at other (token.Name x) =
     Next (nesting_mark d) 0 (Index 0 0 ∷ Assign at ∷ Count 0 ∷ s)
     (AnIdent (record { at = at; text = x }) ∷ vs)
@@ -428,11 +428,11 @@ abbrev pub scope_end : ℕ → List Part → List Part
 scope_end n s = AWord word.Delocal ∷ Kind ∷ var_parts (ASign sign.Equal ∷ Count n ∷ Level 9 0 0 ∷ s)
 
 -- what follows the place that a statement begins with
-abbrev pub assigned : (at : ℕ) → List Part → ℕ → List Value → Option UpdateOp → Step → Step
+abbrev pub assigned : (at : ℕ) → List Part → ℕ → List ParsedValue → Option UpdateOp → Step → Step
 assigned at s n vs (Some op) other = Next Within n (Level 9 0 0 ∷ Build (MakeUpdate at op) ∷ s) vs
 assigned at s n vs None other = other
 
-abbrev pub swapped : (at : ℕ) → List Part → ℕ → List Value → TokenKind → Step
+abbrev pub swapped : (at : ℕ) → List Part → ℕ → List ParsedValue → TokenKind → Step
 swapped at s n vs (token.Sign sign.Swap) = Next Within n (Spot ∷ Build (MakeSwap at) ∷ s) vs
 swapped at s n vs _ = Wrong
 
@@ -445,7 +445,7 @@ branch_parts second third d l n s =
 abbrev pub send_parts : (at : ℕ) (back : Bool) → List Part → List Part
 send_parts at back s = AName ∷ ASign sign.LeftParen ∷ Args ∷ Build (MakeSend at back) ∷ s
 
-abbrev pub receiver : (at : ℕ) (back : Bool) (l : ℕ) → List Part → ℕ → List Value → TokenKind → Step
+abbrev pub receiver : (at : ℕ) (back : Bool) (l : ℕ) → List Part → ℕ → List ParsedValue → TokenKind → Step
 receiver at back l s n vs (token.Sign sign.LeftParen) =
     Next Within n (Args ∷ Build (MakeCall at back) ∷ s) vs
 receiver at back l s n vs (token.Sign sign.DoubleColon) =
@@ -455,13 +455,13 @@ receiver at back l s n vs (token.Sign sign.LeftBracket) =
     ∷ ASign sign.DoubleColon ∷ send_parts at back s) vs
 receiver at back l s n vs _ = Wrong
 
-abbrev pub args : List Part → ℕ → List Value → ℕ → TokenKind → Step
+abbrev pub args : List Part → ℕ → List ParsedValue → ℕ → TokenKind → Step
 args s n vs at (token.Sign sign.RightParen) = Next Within n s (Idents [] ∷ vs)
 args s n vs at (token.Name x) =
     Next Within n (MoreArgs ∷ s) (Idents (record { at = at; text = x } ∷ []) ∷ vs)
 args s n vs at _ = Wrong
 
-abbrev pub more_args : List Part → ℕ → List Value → TokenKind → Step
+abbrev pub more_args : List Part → ℕ → List ParsedValue → TokenKind → Step
 more_args s n vs (token.Sign sign.RightParen) = Next Within n s vs
 more_args s n vs (token.Sign sign.Comma) = Next Within n (AName ∷ Build AddName ∷ MoreArgs ∷ s) vs
 more_args s n vs _ = Wrong
@@ -470,23 +470,23 @@ more_args s n vs _ = Wrong
 abbrev pub field_parts : List Part → List Part
 field_parts s = var_parts (Build AddVar ∷ s)
 
-abbrev pub params : List Part → ℕ → List Value → Step → TokenKind → Step
+abbrev pub params : List Part → ℕ → List ParsedValue → Step → TokenKind → Step
 params s n vs other (token.Sign sign.RightParen) = Next Within n s (Vars [] ∷ vs)
 params s n vs other _ = other
 
-abbrev pub more_params : (c : ℕ) → List Part → ℕ → List Value → TokenKind → Step
+abbrev pub more_params : (c : ℕ) → List Part → ℕ → List ParsedValue → TokenKind → Step
 more_params c s n vs (token.Sign sign.RightParen) = Next Within n s vs
 more_params c s n vs (token.Sign sign.Comma) = Next Within n (Param c ∷ MoreParams (suc c) ∷ s) vs
 more_params c s n vs _ = Wrong
 
-abbrev pub parent : List Part → ℕ → List Value → Step → TokenKind → Step
+abbrev pub parent : List Part → ℕ → List ParsedValue → Step → TokenKind → Step
 parent s n vs other (token.Word word.Inherits) = Next Within n (AName ∷ Build MakeParent ∷ s) vs
 parent s n vs other _ = other
 
 abbrev pub method_parts : List Part → List Part
 method_parts s = AName ∷ ASign sign.LeftParen ∷ Params ∷ Block 0 0 ∷ Build MakeMethod ∷ s
 
-abbrev pub procedures : List Part → ℕ → List Value → Step → TokenKind → Step
+abbrev pub procedures : List Part → ℕ → List ParsedValue → Step → TokenKind → Step
 procedures s n vs other (token.Word word.Method) = Next Within n (method_parts (Procedures ∷ s)) vs
 procedures s n vs other _ = other
 
@@ -494,7 +494,7 @@ abbrev pub class_parts : List Part → List Part
 class_parts s = AName ∷ Parent ∷ Build NoVars ∷ Fields ∷ Build NoMethods ∷ Procedures
     ∷ Build MakeClass ∷ s
 
-abbrev pub program : (c : ℕ) → List Part → ℕ → List Value → Step → TokenKind → Step
+abbrev pub program : (c : ℕ) → List Part → ℕ → List ParsedValue → Step → TokenKind → Step
 program c s n vs other (token.Word word.Class) =
     Next (class_mark c) n (class_parts (Program (suc c) ∷ s)) vs
 program c s n vs other _ = other
@@ -562,7 +562,7 @@ here is [] = false
 here is (t ∷ ts) = is t.kind
 
 -- the step that a token makes
-unfoldable pub walk : List Part → ℕ → List Value → Token → Step
+unfoldable pub walk : List Part → ℕ → List ParsedValue → Token → Step
 walk [] n vs t = Wrong
 walk (AWord w ∷ s) n vs t = cond (is_word w t.kind) (Next Within n s vs) Wrong
 walk (ASign w ∷ s) n vs t = cond (is_sign w t.kind) (Next Within n s vs) Wrong
@@ -573,7 +573,7 @@ walk (Index p i ∷ s) n vs t = index p i s n vs (walk s n (build MakeWhole vs) 
 walk (Spot ∷ s) n vs t = name (Index 0 0 ∷ s) n vs t.at t.kind
 walk (Kind ∷ s) n vs t = a_type s n vs t.at Within Wrong t.kind
 walk (Brackets ∷ s) n vs t = brackets s n vs (walk s n vs t) t.kind
-walk (Made ∷ s) n vs t = made s n vs t.at t.kind
+walk (Made ∷ s) n vs t = made_read s n vs t.at t.kind
 walk (Sized ∷ s) n vs t = sized s n vs (walk s n (build MakeObject vs) t) t.kind
 walk (Single d l ∷ s) n vs t = statement d l s vs t.at Wrong t.kind
 walk (Block d l ∷ s) n vs t = statement d l (block_parts d l s) (Many [] ∷ vs) t.at Wrong t.kind
@@ -600,7 +600,7 @@ walk (Procedures ∷ s) n vs t = procedures s n vs (walk s n vs t) t.kind
 walk (Program c ∷ s) n vs t = program c s n vs (walk s n vs t) t.kind
 
 -- what the end of the tokens makes
-unfoldable pub ends : ℕ → List Part → List Value → Result Value ParseError
+unfoldable pub ends : ℕ → List Part → List ParsedValue → Result ParsedValue ParseError
 ends end [] vs = Ok (top vs)
 ends end (More k p i ∷ s) vs = ends end s vs
 ends end (Index p i ∷ s) vs = ends end s (build MakeWhole vs)
@@ -621,27 +621,27 @@ passed Within bracket = None
 passed (Past which) bracket = Some which
 passed Element bracket = cond bracket (Some limit.Nodes) None
 
-abbrev pub stopped : ℕ → Option LimitKind → Result Value ParseError → Result Value ParseError
+abbrev pub stopped : ℕ → Option LimitKind → Result ParsedValue ParseError → Result ParsedValue ParseError
 stopped at None next = next
 stopped at (Some which) next = Err (Limit which at)
 
 -- what a step leads to: with the limits, or without
-abbrev pub led : Bool → ℕ → Bool → (ℕ → List Part → List Value → Result Value ParseError) → Step
-    → Result Value ParseError
+abbrev pub led : Bool → ℕ → Bool → (ℕ → List Part → List ParsedValue → Result ParsedValue ParseError) → Step
+    → Result ParsedValue ParseError
 led strict at bracket next Wrong = Err (Syntax at)
 led strict at bracket next (Next mark n s vs) =
     cond strict (stopped at (passed mark bracket) (next n s vs)) (next n s vs)
 
 -- what reading gives: the value, or the first token that is wrong or, if the limits count,
 -- passes one
-unfoldable pub scan : Bool → ℕ → List Token → ℕ → List Part → List Value → Result Value ParseError
+unfoldable pub scan : Bool → ℕ → List Token → ℕ → List Part → List ParsedValue → Result ParsedValue ParseError
 scan strict end [] = λ n s vs. ends end s vs
 scan strict end (t ∷ ts) = λ n s vs. led strict t.at (here (is_sign sign.LeftBracket) ts)
     (scan strict end ts) (walk s n vs t)
 
 -- a function that returned this has read what was at the top of the stack
-abbrev pub Gives : {X : Type 0} → Result X ParseError
-    → (List Part → List Value → Result Value ParseError)
-    → (X → List Part → List Value → Result Value ParseError) → Type 0
-Gives (Ok x) before after = (s : List Part) (vs : List Value) → before s vs ≡ after x s vs
-Gives (Err e) before after = e ≢ NoMemory → (s : List Part) (vs : List Value) → before s vs ≡ Err e
+abbrev pub ReaderGives : {X : Type 0} → Result X ParseError
+    → (List Part → List ParsedValue → Result ParsedValue ParseError)
+    → (X → List Part → List ParsedValue → Result ParsedValue ParseError) → Type 0
+ReaderGives (Ok x) before after = (s : List Part) (vs : List ParsedValue) → before s vs ≡ after x s vs
+ReaderGives (Err e) before after = e ≢ NoMemory → (s : List Part) (vs : List ParsedValue) → before s vs ≡ Err e

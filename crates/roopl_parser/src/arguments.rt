@@ -1,6 +1,6 @@
 // The names that a call passes.
 ghost use Rattle.std.specs.Prelude.{◌≡◌, ◌<◌, ◌∷◌, ℕ, true, length, IfOk};
-ghost use Rattle.roopl_parser.specs.Reader.{Gives, scan, Args, MoreArgs, Idents};
+ghost use Rattle.roopl_parser.specs.Reader.{ReaderGives, scan, Args, MoreArgs, Idents};
 
 use crate::error::ParseError;
 use crate::single::{name, next};
@@ -15,7 +15,7 @@ pub fn args<'a>(
     end: u32,
     tokens: &'a [Token],
 ) -> Result<(Vec<Ident>, &'a [Token]), ParseError>
-    ensures gives { (n : ℕ) → Gives result (λ s vs. scan true end tokens.now n (Args ∷ s) vs)
+    ensures gives { (n : ℕ) → ReaderGives result (λ s vs. scan true end tokens.now n (Args ∷ s) vs)
         (λ x s vs. scan true end x.1.now n s (Idents x.0.items ∷ vs)) }
     ensures shorter { IfOk result (λ x. length x.1.now < length tokens.now) }
 {
@@ -44,7 +44,7 @@ fn more_args<'a>(
     tokens: &'a [Token],
     first: Vec<Ident>,
 ) -> Result<(Vec<Ident>, &'a [Token]), ParseError>
-    ensures gives { (n : ℕ) → Gives result
+    ensures gives { (n : ℕ) → ReaderGives result
         (λ s vs. scan true end tokens.now n (MoreArgs ∷ s) (Idents first.items ∷ vs))
         (λ x s vs. scan true end x.1.now n s (Idents x.0.items ∷ vs)) }
     ensures shorter { IfOk result (λ x. length x.1.now < length tokens.now) }

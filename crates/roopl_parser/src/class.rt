@@ -4,7 +4,7 @@ ghost use Rattle.rpp_tree.specs.declared.tree.Var.{Var};
 ghost use Rattle.rpp_tree.specs.Tree.{Procedure, ClassText};
 ghost use Rattle.rpp_tree.specs.Views.{procedure_of, class_text_of};
 ghost use Rattle.roopl_lexer.specs.declared.token.Keyword.TheVariants as word;
-ghost use Rattle.roopl_parser.specs.Reader.{Gives, scan, AWord, Parent, Fields, Procedures, Program, AParent, Vars, Methods, Classes, class_parts, method_parts};
+ghost use Rattle.roopl_parser.specs.Reader.{ReaderGives, scan, AWord, Parent, Fields, Procedures, Program, AParent, Vars, Methods, Classes, class_parts, method_parts};
 
 use crate::error::ParseError;
 use crate::kinds::variable;
@@ -22,7 +22,7 @@ fn parent<'a>(
     end: u32,
     tokens: &'a [Token],
 ) -> Result<(Option<Ident>, &'a [Token]), ParseError>
-    ensures gives { Gives result (λ s vs. scan true end tokens.now 0 (Parent ∷ s) vs)
+    ensures gives { ReaderGives result (λ s vs. scan true end tokens.now 0 (Parent ∷ s) vs)
         (λ x s vs. scan true end x.1.now 0 s (AParent x.0 ∷ vs)) }
     ensures shorter { IfOk result (λ x. length x.1.now ≤ length tokens.now) }
 {
@@ -42,7 +42,7 @@ fn fields<'a>(
     end: u32,
     tokens: &'a [Token],
 ) -> Result<(Vec<Var>, &'a [Token]), ParseError>
-    ensures gives { Gives result (λ s vs. scan true end tokens.now 0 (Fields ∷ s) (Vars [] ∷ vs))
+    ensures gives { ReaderGives result (λ s vs. scan true end tokens.now 0 (Fields ∷ s) (Vars [] ∷ vs))
         (λ x s vs. scan true end x.1.now 0 s (Vars x.0.items ∷ vs)) }
     ensures shorter { IfOk result (λ x. length x.1.now ≤ length tokens.now) }
 {
@@ -64,7 +64,7 @@ fn method<'a>(
     tokens: &'a [Token],
 ) -> Result<(Method, &'a [Token]), ParseError>
     ensures gives { (xs : List Procedure)
-        → Gives result (λ s vs. scan true end tokens.now 0 (AWord word.Method ∷ method_parts s)
+        → ReaderGives result (λ s vs. scan true end tokens.now 0 (AWord word.Method ∷ method_parts s)
         (Methods xs ∷ vs)) (λ x s vs. scan true end x.1.now 0 s
         (Methods (xs ++ procedure_of x.0 ∷ []) ∷ vs)) }
     ensures shorter { IfOk result (λ x. length x.1.now < length tokens.now) }
@@ -84,7 +84,7 @@ fn methods<'a>(
     end: u32,
     tokens: &'a [Token],
 ) -> Result<(Vec<Method>, &'a [Token]), ParseError>
-    ensures gives { Gives result (λ s vs. scan true end tokens.now 0 (Procedures ∷ s)
+    ensures gives { ReaderGives result (λ s vs. scan true end tokens.now 0 (Procedures ∷ s)
         (Methods [] ∷ vs)) (λ x s vs. scan true end x.1.now 0 s
         (Methods (map procedure_of x.0.items) ∷ vs)) }
     ensures shorter { IfOk result (λ x. length x.1.now ≤ length tokens.now) }
@@ -107,7 +107,7 @@ fn class<'a>(
     tokens: &'a [Token],
 ) -> Result<(Class, &'a [Token]), ParseError>
     ensures gives { (xs : List ClassText)
-        → Gives result (λ s vs. scan true end tokens.now 0 (AWord word.Class ∷ class_parts s)
+        → ReaderGives result (λ s vs. scan true end tokens.now 0 (AWord word.Class ∷ class_parts s)
         (Classes xs ∷ vs)) (λ x s vs. scan true end x.1.now 0 s
         (Classes (xs ++ class_text_of x.0 ∷ []) ∷ vs)) }
     ensures shorter { IfOk result (λ x. length x.1.now < length tokens.now) }
@@ -133,7 +133,7 @@ pub fn classes<'a>(
     end: u32,
     tokens: &'a [Token],
 ) -> Result<(Vec<Class>, &'a [Token]), ParseError>
-    ensures gives { Gives result (λ s vs. scan true end tokens.now 0 (Program 0 ∷ s)
+    ensures gives { ReaderGives result (λ s vs. scan true end tokens.now 0 (Program 0 ∷ s)
         (Classes [] ∷ vs)) (λ x s vs. scan true end x.1.now 0 s
         (Classes (map class_text_of x.0.items) ∷ vs)) }
 {

@@ -5,7 +5,7 @@ ghost use Rattle.rpp_tree.specs.declared.limits.LimitKind.TheVariants as limit;
 ghost use Rattle.roopl_parser.specs.declared.error.ParseError.TheVariants.{Limit};
 ghost use Rattle.rpp_tree.specs.Views.{expression_of, lvalue_of};
 ghost use Rattle.roopl_lexer.specs.declared.token.Symbol.TheVariants as sign;
-ghost use Rattle.roopl_parser.specs.Reader.{Gives, scan, here, is_sign, stopped, passed, name_mark, parens_mark, Level, More, Index, Build, MakeRead, ASign, AnExpr, AnIdent, APlace};
+ghost use Rattle.roopl_parser.specs.Reader.{ReaderGives, scan, here, is_sign, stopped, passed, name_mark, parens_mark, Level, More, Index, Build, MakeRead, ASign, AnExpr, AnIdent, APlace};
 
 use crate::error::ParseError;
 use crate::single::{bracket_here, next, operator_at, sign};
@@ -39,7 +39,7 @@ fn operand<'a>(
     parens: u32,
     indexes: u32,
 ) -> Result<(Expr, u32, &'a [Token]), ParseError>
-    ensures gives { Gives result (λ s vs. scan true end tokens.now nodes
+    ensures gives { ReaderGives result (λ s vs. scan true end tokens.now nodes
         (Level 0 parens indexes ∷ s) vs)
         (λ x s vs. scan true end x.2.now x.1 s (AnExpr (expression_of x.0) ∷ vs)) }
     ensures shorter { IfOk result (λ x. length x.2.now < length tokens.now) }
@@ -86,7 +86,7 @@ fn read<'a>(
     indexes: u32,
     name: Ident,
 ) -> Result<(Expr, u32, &'a [Token]), ParseError>
-    ensures gives { Gives result
+    ensures gives { ReaderGives result
         (λ s vs. stopped name.at (passed (name_mark nodes indexes)
         (here (is_sign sign.LeftBracket) tokens.now))
         (scan true end tokens.now (suc nodes) (Index parens indexes ∷ Build MakeRead ∷ s)
@@ -117,7 +117,7 @@ fn grouped<'a>(
     indexes: u32,
     at: u32,
 ) -> Result<(Expr, u32, &'a [Token]), ParseError>
-    ensures gives { Gives result
+    ensures gives { ReaderGives result
         (λ s vs. stopped at (passed (parens_mark parens)
         (here (is_sign sign.LeftBracket) tokens.now))
         (scan true end tokens.now nodes (Level 9 (suc parens) indexes ∷ ASign sign.RightParen ∷ s)
@@ -148,7 +148,7 @@ pub fn indexed<'a>(
     name: Ident,
 ) -> Result<(Place, u32, &'a [Token]), ParseError>
     requires { here (is_sign sign.LeftBracket) tokens.now ≡ true → indexes < MOST_INDEX_DEPTH }
-    ensures gives { Gives result (λ s vs. scan true end tokens.now nodes (Index parens indexes ∷ s)
+    ensures gives { ReaderGives result (λ s vs. scan true end tokens.now nodes (Index parens indexes ∷ s)
         (AnIdent name ∷ vs)) (λ x s vs. scan true end x.2.now x.1 s (APlace (lvalue_of x.0) ∷ vs)) }
     ensures shorter { IfOk result (λ x. length x.2.now ≤ length tokens.now) }
 {
@@ -178,7 +178,7 @@ pub fn binary<'a>(
     indexes: u32,
     level: u32,
 ) -> Result<(Expr, u32, &'a [Token]), ParseError>
-    ensures gives { Gives result (λ s vs. scan true end tokens.now nodes
+    ensures gives { ReaderGives result (λ s vs. scan true end tokens.now nodes
         (Level level parens indexes ∷ s) vs)
         (λ x s vs. scan true end x.2.now x.1 s (AnExpr (expression_of x.0) ∷ vs)) }
     ensures shorter { IfOk result (λ x. length x.2.now < length tokens.now) }
@@ -205,7 +205,7 @@ fn more<'a>(
     left: Expr,
 ) -> Result<(Expr, u32, &'a [Token]), ParseError>
     requires { 0 < level }
-    ensures gives { Gives result (λ s vs. scan true end tokens.now nodes
+    ensures gives { ReaderGives result (λ s vs. scan true end tokens.now nodes
         (More level parens indexes ∷ s) (AnExpr (expression_of left) ∷ vs))
         (λ x s vs. scan true end x.2.now x.1 s (AnExpr (expression_of x.0) ∷ vs)) }
     ensures shorter { IfOk result (λ x. length x.2.now ≤ length tokens.now) }

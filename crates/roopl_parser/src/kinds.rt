@@ -4,7 +4,7 @@ ghost use Rattle.rpp_tree.specs.declared.tree.VarType.{VarType};
 ghost use Rattle.rpp_tree.specs.Views.{expression_of, lvalue_of, creation_of};
 ghost use Rattle.roopl_lexer.specs.declared.token.Symbol.TheVariants as sign;
 ghost use Rattle.roopl_parser.specs.Grammar.{array_of};
-ghost use Rattle.roopl_parser.specs.Reader.{Gives, scan, here, is_sign, Kind, Brackets, Spot, Made as MadePart, Level, ASign, AType, AVar, APlace, AnExpr, ACreation, var_parts};
+ghost use Rattle.roopl_parser.specs.Reader.{ReaderGives, scan, here, is_sign, Kind, Brackets, Spot, Made as MadePart, Level, ASign, AType, AVar, APlace, AnExpr, ACreation, var_parts};
 
 use crate::error::ParseError;
 use crate::expression::{binary, indexed};
@@ -17,7 +17,7 @@ use std::alloc::Global;
 #[tactic(auto, unfolding(crate::specs::Reader::scan, crate::specs::Reader::walk, crate::specs::Reader::ends), using(crate::proofs::MoveSets::kind_moves))]
 fn brackets<'a>(end: u32, tokens: &'a [Token]) -> Result<(bool, &'a [Token]), ParseError>
     ensures gives { (n : ℕ) (k : VarType)
-        → Gives result (λ s vs. scan true end tokens.now n (Brackets ∷ s) (AType k ∷ vs))
+        → ReaderGives result (λ s vs. scan true end tokens.now n (Brackets ∷ s) (AType k ∷ vs))
         (λ x s vs. scan true end x.1.now n s (AType (cond x.0 (array_of k) k) ∷ vs)) }
     ensures shorter { IfOk result (λ x. length x.1.now ≤ length tokens.now) }
 {
@@ -37,7 +37,7 @@ pub fn kind<'a>(
     end: u32,
     tokens: &'a [Token],
 ) -> Result<(VarType, &'a [Token]), ParseError>
-    ensures gives { (n : ℕ) → Gives result (λ s vs. scan true end tokens.now n (Kind ∷ s) vs)
+    ensures gives { (n : ℕ) → ReaderGives result (λ s vs. scan true end tokens.now n (Kind ∷ s) vs)
         (λ x s vs. scan true end x.1.now n s (AType x.0 ∷ vs)) }
     ensures shorter { IfOk result (λ x. length x.1.now < length tokens.now) }
 {
@@ -70,7 +70,7 @@ pub fn variable<'a>(
     end: u32,
     tokens: &'a [Token],
 ) -> Result<(Var, &'a [Token]), ParseError>
-    ensures gives { (n : ℕ) → Gives result
+    ensures gives { (n : ℕ) → ReaderGives result
         (λ s vs. scan true end tokens.now n (Kind ∷ var_parts s) vs)
         (λ x s vs. scan true end x.1.now n s (AVar x.0 ∷ vs)) }
     ensures shorter { IfOk result (λ x. length x.1.now < length tokens.now) }
@@ -88,7 +88,7 @@ pub fn place<'a>(
     tokens: &'a [Token],
     nodes: u32,
 ) -> Result<(Place, u32, &'a [Token]), ParseError>
-    ensures gives { Gives result (λ s vs. scan true end tokens.now nodes (Spot ∷ s) vs)
+    ensures gives { ReaderGives result (λ s vs. scan true end tokens.now nodes (Spot ∷ s) vs)
         (λ x s vs. scan true end x.2.now x.1 s (APlace (lvalue_of x.0) ∷ vs)) }
     ensures shorter { IfOk result (λ x. length x.2.now < length tokens.now) }
 {
@@ -103,7 +103,7 @@ fn array_length<'a>(
     end: u32,
     tokens: &'a [Token],
 ) -> Result<(Expr, u32, &'a [Token]), ParseError>
-    ensures gives { Gives result (λ s vs. scan true end tokens.now 0
+    ensures gives { ReaderGives result (λ s vs. scan true end tokens.now 0
         (ASign sign.LeftBracket ∷ Level 9 0 0 ∷ ASign sign.RightBracket ∷ s) vs)
         (λ x s vs. scan true end x.2.now x.1 s (AnExpr (expression_of x.0) ∷ vs)) }
     ensures shorter { IfOk result (λ x. length x.2.now < length tokens.now) }
@@ -121,7 +121,7 @@ pub fn made<'a>(
     end: u32,
     tokens: &'a [Token],
 ) -> Result<(Made, u32, &'a [Token]), ParseError>
-    ensures gives { Gives result (λ s vs. scan true end tokens.now 0 (MadePart ∷ s) vs)
+    ensures gives { ReaderGives result (λ s vs. scan true end tokens.now 0 (MadePart ∷ s) vs)
         (λ x s vs. scan true end x.2.now x.1 s (ACreation (creation_of x.0) ∷ vs)) }
     ensures shorter { IfOk result (λ x. length x.2.now < length tokens.now) }
 {

@@ -1,7 +1,7 @@
 // The parameters of a method.
 ghost use Rattle.std.specs.Prelude.{◌≡◌, ◌<◌, ◌∷◌, ◌++◌, [], ℕ, List, true, length, IfOk};
 ghost use Rattle.rpp_tree.specs.declared.tree.Var.{Var};
-ghost use Rattle.roopl_parser.specs.Reader.{Gives, scan, Params, Param, MoreParams, Vars};
+ghost use Rattle.roopl_parser.specs.Reader.{ReaderGives, scan, Params, Param, MoreParams, Vars};
 
 use crate::error::ParseError;
 use crate::kinds::variable;
@@ -19,7 +19,7 @@ fn param<'a>(
     count: usize,
 ) -> Result<(Var, &'a [Token]), ParseError>
     ensures gives { (n : ℕ) (xs : List Var)
-        → Gives result (λ s vs. scan true end tokens.now n (Param count ∷ s) (Vars xs ∷ vs))
+        → ReaderGives result (λ s vs. scan true end tokens.now n (Param count ∷ s) (Vars xs ∷ vs))
         (λ x s vs. scan true end x.1.now n s (Vars (xs ++ x.0 ∷ []) ∷ vs)) }
     ensures shorter { IfOk result (λ x. length x.1.now < length tokens.now) }
 {
@@ -44,7 +44,7 @@ pub fn params<'a>(
     end: u32,
     tokens: &'a [Token],
 ) -> Result<(Vec<Var>, &'a [Token]), ParseError>
-    ensures gives { (n : ℕ) → Gives result (λ s vs. scan true end tokens.now n (Params ∷ s) vs)
+    ensures gives { (n : ℕ) → ReaderGives result (λ s vs. scan true end tokens.now n (Params ∷ s) vs)
         (λ x s vs. scan true end x.1.now n s (Vars x.0.items ∷ vs)) }
     ensures shorter { IfOk result (λ x. length x.1.now < length tokens.now) }
 {
@@ -67,7 +67,7 @@ fn more_params<'a>(
     tokens: &'a [Token],
     first: Vec<Var>,
 ) -> Result<(Vec<Var>, &'a [Token]), ParseError>
-    ensures gives { (n : ℕ) → Gives result
+    ensures gives { (n : ℕ) → ReaderGives result
         (λ s vs. scan true end tokens.now n (MoreParams (length first.items) ∷ s)
         (Vars first.items ∷ vs)) (λ x s vs. scan true end x.1.now n s (Vars x.0.items ∷ vs)) }
     ensures shorter { IfOk result (λ x. length x.1.now < length tokens.now) }

@@ -6,10 +6,10 @@ ghost use Rattle.rpp_tree.specs.Limits.{IsWithinLimits};
 ghost use Rattle.rpp_tree.specs.Tree.{Source};
 ghost use Rattle.rpp_tree.specs.Views.{source_of};
 ghost use Rattle.roopl_parser.specs.Grammar.{Derives};
-ghost use Rattle.roopl_parser.specs.Readable.{AreSmall, IsReadable};
+ghost use Rattle.roopl_parser.specs.Readable.{AreSmallTokens, IsReadable};
 ghost use Rattle.roopl_parser.specs.Reader.{Classes};
 ghost use Rattle.roopl_parser.specs.declared.error.ParseError.{ParseError};
-ghost use Rattle.roopl_parser.specs.Viable.{IsWrongAt, IsReached, first_limit, reading};
+ghost use Rattle.roopl_parser.specs.Viable.{IsWrongAt, IsTokenReached, first_limit, reading};
 
 use crate::class::classes;
 use crate::error::ParseError;
@@ -45,7 +45,7 @@ pub fn parse(alloc: Global, tokens: &[Token], end: u32) -> Result<Program, Parse
     ensures tree { IfOk result (λ b. Derives tokens.now (source_of b) × (first_limit tokens.now ≡ None)) }
     // The syntax tree keeps the limits that a syntax tree shows, if the lexer lets the numbers of
     // the tokens through.
-    ensures limits { AreSmall tokens.now → IfOk result (λ b. IsWithinLimits (source_of b)) }
+    ensures limits { AreSmallTokens tokens.now → IfOk result (λ b. IsWithinLimits (source_of b)) }
     // What the grammar derives and passes no limit is read, unless memory runs out, and only as
     // this syntax tree.
     ensures only { (x : Source) → Derives tokens.now x → first_limit tokens.now ≡ None
@@ -61,7 +61,7 @@ pub fn parse(alloc: Global, tokens: &[Token], end: u32) -> Result<Program, Parse
     // begin so;
     ensures limit { (which : LimitKind) (at : ℕ) → result ≡ Err (ParseError.Limit which at)
         → (first_limit tokens.now ≡ Some (ParseError.Limit which at))
-        × (which ≢ Tokens → IsReached tokens.now at) }
+        × (which ≢ Tokens → IsTokenReached tokens.now at) }
     // and it comes wherever one is passed, unless memory runs out.
     ensures passed { (limit : ParseError) → first_limit tokens.now ≡ Some limit
         → MatchResult result (λ b. ⊥) (λ e. e ≢ ParseError.NoMemory → e ≡ limit) }

@@ -2,7 +2,7 @@
 ghost use Rattle.std.specs.Prelude.{◌≡◌, ◌≤◌, ◌<◌, ◌∷◌, ℕ, true, length, IfOk};
 ghost use Rattle.rpp_tree.specs.Views.{statement_of, lvalue_of, creation_of};
 ghost use Rattle.roopl_lexer.specs.declared.token.Symbol.TheVariants as sign;
-ghost use Rattle.roopl_parser.specs.Reader.{Gives, scan, Index, Assign, Count, Made as MadePart, Spot, Kind, Receiver, Args, AName, ASign, Build, AnIdent, APlace, ACreation, AType, AStatement, MakeNew, MakeDelete, MakeCopy, MakeUncopy, MakeCall, send_parts};
+ghost use Rattle.roopl_parser.specs.Reader.{ReaderGives, scan, Index, Assign, Count, Made as MadePart, Spot, Kind, Receiver, Args, AName, ASign, Build, AnIdent, APlace, ACreation, AType, AStatement, MakeNew, MakeDelete, MakeCopy, MakeUncopy, MakeCall, send_parts};
 
 use crate::arguments::args;
 use crate::error::ParseError;
@@ -21,7 +21,7 @@ pub fn assignment<'a>(
     tokens: &'a [Token],
     first: Ident,
 ) -> Result<(Stmt, &'a [Token]), ParseError>
-    ensures gives { Gives result (λ s vs. scan true end tokens.now 0
+    ensures gives { ReaderGives result (λ s vs. scan true end tokens.now 0
         (Index 0 0 ∷ Assign first.at ∷ Count 0 ∷ s) (AnIdent first ∷ vs))
         (λ x s vs. scan true end x.1.now 0 s (AStatement (statement_of x.0) ∷ vs)) }
     ensures shorter { IfOk result (λ x. length x.1.now < length tokens.now) }
@@ -41,7 +41,7 @@ fn assigned<'a>(
     at: u32,
     left: Place,
 ) -> Result<(Stmt, &'a [Token]), ParseError>
-    ensures gives { Gives result (λ s vs. scan true end tokens.now nodes (Assign at ∷ Count 0 ∷ s)
+    ensures gives { ReaderGives result (λ s vs. scan true end tokens.now nodes (Assign at ∷ Count 0 ∷ s)
         (APlace (lvalue_of left) ∷ vs))
         (λ x s vs. scan true end x.1.now 0 s (AStatement (statement_of x.0) ∷ vs)) }
     ensures shorter { IfOk result (λ x. length x.1.now < length tokens.now) }
@@ -77,7 +77,7 @@ fn creation<'a>(
     end: u32,
     tokens: &'a [Token],
 ) -> Result<(Made, Place, u32, &'a [Token]), ParseError>
-    ensures gives { Gives result (λ s vs. scan true end tokens.now 0 (MadePart ∷ Spot ∷ s) vs)
+    ensures gives { ReaderGives result (λ s vs. scan true end tokens.now 0 (MadePart ∷ Spot ∷ s) vs)
         (λ x s vs. scan true end x.3.now x.2 s
         (APlace (lvalue_of x.1) ∷ ACreation (creation_of x.0) ∷ vs)) }
     ensures shorter { IfOk result (λ x. length x.3.now < length tokens.now) }
@@ -95,7 +95,7 @@ pub fn make<'a>(
     tokens: &'a [Token],
     at: u32,
 ) -> Result<(Stmt, &'a [Token]), ParseError>
-    ensures gives { Gives result (λ s vs. scan true end tokens.now 0
+    ensures gives { ReaderGives result (λ s vs. scan true end tokens.now 0
         (MadePart ∷ Spot ∷ Build (MakeNew at) ∷ Count 0 ∷ s) vs)
         (λ x s vs. scan true end x.1.now 0 s (AStatement (statement_of x.0) ∷ vs)) }
     ensures shorter { IfOk result (λ x. length x.1.now < length tokens.now) }
@@ -112,7 +112,7 @@ pub fn delete<'a>(
     tokens: &'a [Token],
     at: u32,
 ) -> Result<(Stmt, &'a [Token]), ParseError>
-    ensures gives { Gives result (λ s vs. scan true end tokens.now 0
+    ensures gives { ReaderGives result (λ s vs. scan true end tokens.now 0
         (MadePart ∷ Spot ∷ Build (MakeDelete at) ∷ Count 0 ∷ s) vs)
         (λ x s vs. scan true end x.1.now 0 s (AStatement (statement_of x.0) ∷ vs)) }
     ensures shorter { IfOk result (λ x. length x.1.now < length tokens.now) }
@@ -128,7 +128,7 @@ fn copying<'a>(
     end: u32,
     tokens: &'a [Token],
 ) -> Result<(VarType, Place, Place, u32, &'a [Token]), ParseError>
-    ensures gives { Gives result (λ s vs. scan true end tokens.now 0 (Kind ∷ Spot ∷ Spot ∷ s) vs)
+    ensures gives { ReaderGives result (λ s vs. scan true end tokens.now 0 (Kind ∷ Spot ∷ Spot ∷ s) vs)
         (λ x s vs. scan true end x.4.now x.3 s
         (APlace (lvalue_of x.2) ∷ APlace (lvalue_of x.1) ∷ AType x.0 ∷ vs)) }
     ensures shorter { IfOk result (λ x. length x.4.now < length tokens.now) }
@@ -147,7 +147,7 @@ pub fn copy<'a>(
     tokens: &'a [Token],
     at: u32,
 ) -> Result<(Stmt, &'a [Token]), ParseError>
-    ensures gives { Gives result (λ s vs. scan true end tokens.now 0
+    ensures gives { ReaderGives result (λ s vs. scan true end tokens.now 0
         (Kind ∷ Spot ∷ Spot ∷ Build (MakeCopy at) ∷ Count 0 ∷ s) vs)
         (λ x s vs. scan true end x.1.now 0 s (AStatement (statement_of x.0) ∷ vs)) }
     ensures shorter { IfOk result (λ x. length x.1.now < length tokens.now) }
@@ -170,7 +170,7 @@ pub fn uncopy<'a>(
     tokens: &'a [Token],
     at: u32,
 ) -> Result<(Stmt, &'a [Token]), ParseError>
-    ensures gives { Gives result (λ s vs. scan true end tokens.now 0
+    ensures gives { ReaderGives result (λ s vs. scan true end tokens.now 0
         (Kind ∷ Spot ∷ Spot ∷ Build (MakeUncopy at) ∷ Count 0 ∷ s) vs)
         (λ x s vs. scan true end x.1.now 0 s (AStatement (statement_of x.0) ∷ vs)) }
     ensures shorter { IfOk result (λ x. length x.1.now < length tokens.now) }
@@ -195,7 +195,7 @@ fn send<'a>(
     back: bool,
     first: Ident,
 ) -> Result<(Stmt, &'a [Token]), ParseError>
-    ensures gives { Gives result (λ s vs. scan true end tokens.now 0
+    ensures gives { ReaderGives result (λ s vs. scan true end tokens.now 0
         (Index 0 0 ∷ ASign sign.DoubleColon ∷ send_parts at back (Count 0 ∷ s))
         (AnIdent first ∷ vs)) (λ x s vs. scan true end x.1.now 0 s
         (AStatement (statement_of x.0) ∷ vs)) }
@@ -226,7 +226,7 @@ pub fn call<'a>(
     back: bool,
     locals: u32,
 ) -> Result<(Stmt, &'a [Token]), ParseError>
-    ensures gives { Gives result (λ s vs. scan true end tokens.now 0
+    ensures gives { ReaderGives result (λ s vs. scan true end tokens.now 0
         (AName ∷ Receiver at back locals ∷ Count 0 ∷ s) vs)
         (λ x s vs. scan true end x.1.now 0 s (AStatement (statement_of x.0) ∷ vs)) }
     ensures shorter { IfOk result (λ x. length x.1.now < length tokens.now) }
@@ -246,7 +246,7 @@ fn target<'a>(
     locals: u32,
     first: Ident,
 ) -> Result<(Stmt, &'a [Token]), ParseError>
-    ensures gives { Gives result (λ s vs. scan true end tokens.now 0
+    ensures gives { ReaderGives result (λ s vs. scan true end tokens.now 0
         (Receiver at back locals ∷ Count 0 ∷ s) (AnIdent first ∷ vs))
         (λ x s vs. scan true end x.1.now 0 s (AStatement (statement_of x.0) ∷ vs)) }
     ensures shorter { IfOk result (λ x. length x.1.now < length tokens.now) }
@@ -281,7 +281,7 @@ fn own_call<'a>(
     back: bool,
     method: Ident,
 ) -> Result<(Stmt, &'a [Token]), ParseError>
-    ensures gives { Gives result (λ s vs. scan true end tokens.now 0
+    ensures gives { ReaderGives result (λ s vs. scan true end tokens.now 0
         (Args ∷ Build (MakeCall at back) ∷ Count 0 ∷ s) (AnIdent method ∷ vs))
         (λ x s vs. scan true end x.1.now 0 s (AStatement (statement_of x.0) ∷ vs)) }
     ensures shorter { IfOk result (λ x. length x.1.now < length tokens.now) }

@@ -3,8 +3,8 @@ ghost use Rattle.std.specs.Prelude.{◌≡◌, ◌<◌, ◌∷◌, ℕ, length, 
 ghost use Rattle.roopl_lexer.specs.declared.token.TokenKind.TheVariants.{Sign};
 ghost use Rattle.roopl_lexer.specs.declared.token.Symbol.TheVariants as sign;
 ghost use Rattle.roopl_parser.specs.Operators.{operator_at, binary_operator, update_operator};
-ghost use Rattle.roopl_parser.specs.Reader.{Gives, scan, ASign, AWord, AName, AnIdent, is_sign, is_word, here, starts, types};
-ghost use Rattle.roopl_parser.specs.Viable.{place_of};
+ghost use Rattle.roopl_parser.specs.Reader.{ReaderGives, scan, ASign, AWord, AName, AnIdent, is_sign, is_word, here, starts, types};
+ghost use Rattle.roopl_parser.specs.Viable.{offset_at};
 
 use crate::error::ParseError;
 use roopl_lexer::{Keyword, Symbol, Token, TokenKind};
@@ -24,7 +24,7 @@ pub fn next(tokens: &[Token]) -> Option<(&Token, &[Token])>
 /// Reads a symbol.
 #[tactic(auto, unfolding(crate::specs::Reader::scan, crate::specs::Reader::walk, crate::specs::Reader::ends))]
 pub fn sign<'a>(end: u32, tokens: &'a [Token], wanted: Symbol) -> Result<&'a [Token], ParseError>
-    ensures gives { (n : ℕ) → Gives result
+    ensures gives { (n : ℕ) → ReaderGives result
         (λ s vs. scan true end tokens.now n (ASign wanted ∷ s) vs)
         (λ rest s vs. scan true end rest.now n s vs) }
     ensures shorter { IfOk result (λ rest. length rest.now < length tokens.now) }
@@ -53,7 +53,7 @@ fn is_sign(kind: &TokenKind, wanted: Symbol) -> bool
 /// Reads a keyword.
 #[tactic(auto, unfolding(crate::specs::Reader::scan, crate::specs::Reader::walk, crate::specs::Reader::ends))]
 pub fn word<'a>(end: u32, tokens: &'a [Token], wanted: Keyword) -> Result<&'a [Token], ParseError>
-    ensures gives { (n : ℕ) → Gives result
+    ensures gives { (n : ℕ) → ReaderGives result
         (λ s vs. scan true end tokens.now n (AWord wanted ∷ s) vs)
         (λ rest s vs. scan true end rest.now n s vs) }
     ensures shorter { IfOk result (λ rest. length rest.now < length tokens.now) }
@@ -86,7 +86,7 @@ pub fn name<'a>(
     end: u32,
     tokens: &'a [Token],
 ) -> Result<(Ident, &'a [Token]), ParseError>
-    ensures gives { (n : ℕ) → Gives result (λ s vs. scan true end tokens.now n (AName ∷ s) vs)
+    ensures gives { (n : ℕ) → ReaderGives result (λ s vs. scan true end tokens.now n (AName ∷ s) vs)
         (λ x s vs. scan true end x.1.now n s (AnIdent x.0 ∷ vs)) }
     ensures shorter { IfOk result (λ x. length x.1.now < length tokens.now) }
 {
@@ -241,7 +241,7 @@ pub fn type_here(tokens: &[Token]) -> bool
 
 /// The place of the first token, or the end.
 pub fn place_of(end: u32, tokens: &[Token]) -> u32
-    ensures { result ≡ place_of end tokens.now }
+    ensures { result ≡ offset_at end tokens.now }
 {
     match next(tokens) {
         None => end,

@@ -4,7 +4,7 @@ ghost use Rattle.rpp_tree.specs.declared.limits.TheConstants.{MOST_NESTING, MOST
 ghost use Rattle.rpp_tree.specs.Views.{statement_of, block_of, expression_of};
 ghost use Rattle.roopl_lexer.specs.declared.token.Keyword.TheVariants as word;
 ghost use Rattle.roopl_lexer.specs.declared.token.Symbol.TheVariants as sign;
-ghost use Rattle.roopl_parser.specs.Reader.{Gives, scan, is_word, starts, Part, Value, Single, Block as BlockPart, Branches, Level, Count, Build, Scope, Kind, AName, AWord, ASign, AStatement, ABlock, AVar, AnExpr, MakeIf, MakeFrom, MakeConstruct, MakeLocal, var_parts};
+ghost use Rattle.roopl_parser.specs.Reader.{ReaderGives, scan, is_word, starts, Part, ParsedValue, Single, Block as BlockPart, Branches, Level, Count, Build, Scope, Kind, AName, AWord, ASign, AStatement, ABlock, AVar, AnExpr, MakeIf, MakeFrom, MakeConstruct, MakeLocal, var_parts};
 
 use crate::error::ParseError;
 use crate::expression::binary;
@@ -24,7 +24,7 @@ fn beginning<'a>(
     locals: u32,
 ) -> Result<(&'a Token, &'a [Token]), ParseError>
     ensures gives { MatchResult result (λ x. tokens.now ≡ x.0.now ∷ x.1.now)
-        (λ e. (n : ℕ) (s : List Part) (vs : List Value)
+        (λ e. (n : ℕ) (s : List Part) (vs : List ParsedValue)
         → scan true end tokens.now n (Single depth locals ∷ s) vs ≡ Err e) }
     ensures nested { IfOk result (λ x. depth < MOST_NESTING) }
     ensures held { IfOk result (λ x. is_word word.Local x.0.now.kind ≡ true → locals < MOST_LOCALS) }
@@ -65,7 +65,7 @@ fn single<'a>(
     depth: u32,
     locals: u32,
 ) -> Result<(Stmt, &'a [Token]), ParseError>
-    ensures gives { (n : ℕ) → Gives result
+    ensures gives { (n : ℕ) → ReaderGives result
         (λ s vs. scan true end tokens.now n (Single depth locals ∷ s) vs)
         (λ x s vs. scan true end x.1.now 0 s (AStatement (statement_of x.0) ∷ vs)) }
     ensures shorter { IfOk result (λ x. length x.1.now < length tokens.now) }
@@ -107,7 +107,7 @@ fn branches<'a>(
     locals: u32,
 ) -> Result<(Block, Block, Expr, u32, &'a [Token]), ParseError>
     requires { depth < MOST_NESTING }
-    ensures gives { Gives result (λ s vs. scan true end tokens.now nodes
+    ensures gives { ReaderGives result (λ s vs. scan true end tokens.now nodes
         (Branches first second third depth locals ∷ s) vs)
         (λ x s vs. scan true end x.4.now x.3 s
         (AnExpr (expression_of x.2) ∷ ABlock (block_of x.1) ∷ ABlock (block_of x.0) ∷ vs)) }
@@ -134,7 +134,7 @@ fn conditional<'a>(
     locals: u32,
 ) -> Result<(Stmt, &'a [Token]), ParseError>
     requires { depth < MOST_NESTING }
-    ensures gives { Gives result (λ s vs. scan true end tokens.now 0
+    ensures gives { ReaderGives result (λ s vs. scan true end tokens.now 0
         (Level 9 0 0 ∷ Branches word.Then word.Else word.Fi depth locals ∷ Build (MakeIf at)
         ∷ Count 0 ∷ s) vs) (λ x s vs. scan true end x.1.now 0 s
         (AStatement (statement_of x.0) ∷ vs)) }
@@ -174,7 +174,7 @@ fn repeated<'a>(
     locals: u32,
 ) -> Result<(Stmt, &'a [Token]), ParseError>
     requires { depth < MOST_NESTING }
-    ensures gives { Gives result (λ s vs. scan true end tokens.now 0
+    ensures gives { ReaderGives result (λ s vs. scan true end tokens.now 0
         (Level 9 0 0 ∷ Branches word.Do word.Loop word.Until depth locals ∷ Build (MakeFrom at)
         ∷ Count 0 ∷ s) vs) (λ x s vs. scan true end x.1.now 0 s
         (AStatement (statement_of x.0) ∷ vs)) }
@@ -215,7 +215,7 @@ fn construct<'a>(
 ) -> Result<(Stmt, &'a [Token]), ParseError>
     requires nested { depth < MOST_NESTING }
     requires held { locals < MOST_LOCALS }
-    ensures gives { Gives result (λ s vs. scan true end tokens.now 0
+    ensures gives { ReaderGives result (λ s vs. scan true end tokens.now 0
         (AName ∷ AName ∷ BlockPart (suc depth) (suc locals) ∷ AWord word.Destruct ∷ AName
         ∷ Build (MakeConstruct at) ∷ s) vs)
         (λ x s vs. scan true end x.1.now 0 s (AStatement (statement_of x.0) ∷ vs)) }
@@ -249,7 +249,7 @@ fn scope<'a>(
 ) -> Result<(Block, Var, Expr, u32, &'a [Token]), ParseError>
     requires nested { depth < MOST_NESTING }
     requires held { locals < MOST_LOCALS }
-    ensures gives { Gives result (λ s vs. scan true end tokens.now nodes (Scope depth locals ∷ s)
+    ensures gives { ReaderGives result (λ s vs. scan true end tokens.now nodes (Scope depth locals ∷ s)
         vs) (λ x s vs. scan true end x.4.now x.3 s
         (AnExpr (expression_of x.2) ∷ AVar x.1 ∷ ABlock (block_of x.0) ∷ vs)) }
     ensures shorter { IfOk result (λ x. length x.4.now < length tokens.now) }
@@ -275,7 +275,7 @@ fn local<'a>(
 ) -> Result<(Stmt, &'a [Token]), ParseError>
     requires nested { depth < MOST_NESTING }
     requires held { locals < MOST_LOCALS }
-    ensures gives { Gives result (λ s vs. scan true end tokens.now 0
+    ensures gives { ReaderGives result (λ s vs. scan true end tokens.now 0
         (Kind ∷ var_parts (ASign sign.Equal ∷ Level 9 0 0 ∷ Scope depth locals
         ∷ Build (MakeLocal at) ∷ Count 0 ∷ s)) vs)
         (λ x s vs. scan true end x.1.now 0 s (AStatement (statement_of x.0) ∷ vs)) }
@@ -306,7 +306,7 @@ pub fn block<'a>(
     depth: u32,
     locals: u32,
 ) -> Result<(Block, &'a [Token]), ParseError>
-    ensures gives { (n : ℕ) → Gives result
+    ensures gives { (n : ℕ) → ReaderGives result
         (λ s vs. scan true end tokens.now n (BlockPart depth locals ∷ s) vs)
         (λ x s vs. scan true end x.1.now 0 s (ABlock (block_of x.0) ∷ vs)) }
     ensures shorter { IfOk result (λ x. length x.1.now < length tokens.now) }

@@ -24,7 +24,7 @@ use Rattle.roopl_parser.specs.roopl_lexer.Tokens.{token, IsCutting}
 use Rattle.roopl_parser.specs.rpp_words.Texts.{decimal_from}
 use Rattle.roopl_parser.specs.rpp_words.Names.{is_name_byte}
 use Rattle.roopl_printer.specs.Printable.{IsPrintable}
-use Rattle.roopl_printer.specs.Printed.{Printed, kind_bytes, gap, with_gaps, text_of}
+use Rattle.roopl_printer.specs.Printed.{PrintedToken, kind_bytes, gap, with_gaps, printed_text}
 use Rattle.roopl_printer.specs.Spelled.{spelled, printed}
 use Rattle.roopl_printer.proofs.TokenBytes.{is_visible, word_bytes_visible, sign_bytes_visible, decimal_digits}
 
@@ -148,16 +148,16 @@ module _ (w : ℕ) (more : List ℕ) (blank : is_white w ≡ true) where
 -- ---- the tokens of a text
 
 -- the tokens at their offsets: one byte is between two of them
-abbrev pub laid : ℕ → List Printed → List Token
+abbrev pub laid : ℕ → List PrintedToken → List Token
 laid at [] = []
 laid at (t ∷ ts) = record { kind = t.kind; at = at; len = length (kind_bytes t.kind) }
     ∷ laid (at + length (kind_bytes t.kind) + 1) ts
 
-pub laid_kinds : (at : ℕ) (ts : List Printed) → map (λ t. t.kind) (laid at ts) ≡ map (λ t. t.kind) ts
+pub laid_kinds : (at : ℕ) (ts : List PrintedToken) → map (λ t. t.kind) (laid at ts) ≡ map (λ t. t.kind) ts
 laid_kinds at [] = refl
 laid_kinds at (t ∷ ts) = ap (λ kinds. t.kind ∷ kinds) (laid_kinds (at + length (kind_bytes t.kind) + 1) ts)
 
-pub laid_length : (at : ℕ) (ts : List Printed) → length (laid at ts) ≡ length ts
+pub laid_length : (at : ℕ) (ts : List PrintedToken) → length (laid at ts) ≡ length ts
 laid_length at [] = refl
 laid_length at (t ∷ ts) = ap suc (laid_length (at + length (kind_bytes t.kind) + 1) ts)
 
@@ -165,14 +165,14 @@ gap_white : (fresh : Bool) → is_white (gap fresh) ≡ true
 gap_white true = refl
 gap_white false = refl
 
-abbrev Printables : List Printed → Type 0
+abbrev Printables : List PrintedToken → Type 0
 Printables ts = AllByRecursion (λ t. IsPrintable t.kind) ts
 
 -- what follows a token begins with white space
 abbrev BeginsWhite : List ℕ → Type 0
 BeginsWhite bytes = (w : ℕ) × (more : List ℕ) × (bytes ≡ w ∷ more) × (is_white w ≡ true)
 
-behind_white : (ts : List Printed) → BeginsWhite (with_gaps ts ++ 10 ∷ [])
+behind_white : (ts : List PrintedToken) → BeginsWhite (with_gaps ts ++ 10 ∷ [])
 behind_white [] = (10, [], refl, refl)
 behind_white (t ∷ ts) = (gap t.fresh, kind_bytes t.kind ++ with_gaps ts ++ 10 ∷ [], refl, gap_white t.fresh)
 
@@ -191,7 +191,7 @@ token_cut at kind rest tokens printable begins cut =
     (subst (λ l. Cut (at + length (kind_bytes kind)) l tokens None)
     (sym (drop_at (kind_bytes kind) rest (length (kind_bytes kind)) refl)) cut)
 
-text_cut : (t : Printed) (ts : List Printed) (at : ℕ) → IsPrintable t.kind
+text_cut : (t : PrintedToken) (ts : List PrintedToken) (at : ℕ) → IsPrintable t.kind
     → Cut (at + length (kind_bytes t.kind)) (with_gaps ts ++ 10 ∷ []) (laid (at + length (kind_bytes t.kind) + 1) ts)
     None
     → Cut at (kind_bytes t.kind ++ with_gaps ts ++ 10 ∷ []) (laid at (t ∷ ts)) None
@@ -200,13 +200,13 @@ text_cut t ts at here cut =
     (token_cut at t.kind (with_gaps ts ++ 10 ∷ []) (laid (at + length (kind_bytes t.kind) + 1) ts) here
     (behind_white ts) cut)
 
-behind_cut : (ts : List Printed) (at : ℕ) → Printables ts → Cut at (with_gaps ts ++ 10 ∷ []) (laid (at + 1) ts) None
+behind_cut : (ts : List PrintedToken) (at : ℕ) → Printables ts → Cut at (with_gaps ts ++ 10 ∷ []) (laid (at + 1) ts) None
 behind_cut [] at h = white at (10 ∷ []) [] None refl (finish (at + 1))
 behind_cut (t ∷ ts) at h =
     white at (with_gaps (t ∷ ts) ++ 10 ∷ []) (laid (at + 1) (t ∷ ts)) None (gap_white t.fresh)
     (text_cut t ts (at + 1) h.0 (behind_cut ts (at + 1 + length (kind_bytes t.kind)) h.1))
 
-tokens_cut : (ts : List Printed) → Printables ts → IsCutting (text_of ts) (laid 0 ts)
+tokens_cut : (ts : List PrintedToken) → Printables ts → IsCutting (printed_text ts) (laid 0 ts)
 tokens_cut [] h = finish 0
 tokens_cut (t ∷ ts) h = text_cut t ts 0 h.0 (behind_cut ts (0 + length (kind_bytes t.kind)) h.1)
 

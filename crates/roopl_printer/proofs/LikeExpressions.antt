@@ -15,7 +15,7 @@ use Rattle.roopl_parser.specs.Grammar.{IsExpr, number, null, read, parens, weake
 use Rattle.roopl_parser.specs.Grammar.{IsPlace, place}
 use Rattle.roopl_parser.specs.Parens.{parens_of, index_parens, place_parens}
 use Rattle.roopl_printer.specs.Printed.{a_sign}
-use Rattle.roopl_printer.specs.Spelled.{operator, operand, opening, closing, in_brackets, spelled_expression}
+use Rattle.roopl_printer.specs.Spelled.{operator, operand_tokens, opening, closing, in_brackets, spelled_expression}
 use Rattle.roopl_printer.specs.Spelled.{spelled_index, spelled_place}
 use Rattle.rpp_tree.specs.Places.{place_name}
 use Rattle.roopl_printer.proofs.Looks.{Looks, none, next, parted}
@@ -107,7 +107,7 @@ Whole' e = (ts rest : List Token) → Looks (spelled_expression e) ts rest → L
 
 -- an operand, with its parentheses
 abbrev Operand : Expression → Type 0
-Operand e = (ts rest : List Token) → Looks (operand e (spelled_expression e)) ts rest
+Operand e = (ts rest : List Token) → Looks (operand_tokens e (spelled_expression e)) ts rest
     → LikeExpr 0 e (1 + nodes e) ts rest
 
 -- an operand that has no parentheses
@@ -165,7 +165,7 @@ element_like name index inner _ rest (next {a = a} {ts = ts} looks) =
 
 -- the operator and what follows it
 operator_like : (at : ℕ) (op : BinOp) (l r : Expression) → Operand r → (ts mid rest : List Token)
-    → LikeExpr 0 l (1 + nodes l) ts mid → Looks (a_sign (operator op) ∷ operand r (spelled_expression r)) mid rest
+    → LikeExpr 0 l (1 + nodes l) ts mid → Looks (a_sign (operator op) ∷ operand_tokens r (spelled_expression r)) mid rest
     → LikeExpr 9 (Binary at op l r) (nodes (Binary at op l r)) ts rest
 operator_like at op l r right ts _ rest left (next {a = a} {ts = mid} looks) =
     let other = right mid rest looks in
@@ -179,13 +179,13 @@ operator_like at op l r right ts _ rest left (next {a = a} {ts = mid} looks) =
 
 binary_like : (at : ℕ) (op : BinOp) (l r : Expression) → Operand l → Operand r → Whole' (Binary at op l r)
 binary_like at op l r left right ts rest looks =
-    let p = parted (operand l (spelled_expression l)) (a_sign (operator op) ∷ operand r (spelled_expression r)) looks in
+    let p = parted (operand_tokens l (spelled_expression l)) (a_sign (operator op) ∷ operand_tokens r (spelled_expression r)) looks in
     operator_like at op l r right ts p.mid rest (left ts p.mid p.front) p.back
 
 -- what has no parentheses looks the same as an operand
 plain_operand : (e : Expression) → opening e ≡ [] → closing e ≡ [] → Plain e → Operand e
 plain_operand e no_opening no_closing plain ts rest looks =
-    let same : operand e (spelled_expression e) ≡ spelled_expression e =
+    let same : operand_tokens e (spelled_expression e) ≡ spelled_expression e =
     rw (no_opening, no_closing) (append-nil (spelled_expression e)) in
     let like = plain ts rest (subst (λ l. Looks l ts rest) same looks) in
     record { tree = like.tree; derived = like.derived; alike = like.alike; flat = let few = like.flat in omega arith }

@@ -17,8 +17,8 @@ use Rattle.roopl_parser.specs.roopl_lexer.declared.token.Symbol.{Symbol}
 use Rattle.roopl_parser.specs.roopl_lexer.declared.token.Symbol.TheVariants as sign
 use Rattle.roopl_parser.specs.roopl_lexer.declared.token.TokenKind.{TokenKind}
 use Rattle.roopl_parser.specs.roopl_lexer.declared.token.TokenKind.TheVariants as token
-use Rattle.roopl_printer.specs.Printed.{Printed, a_name, a_sign, a_word}
-use Rattle.roopl_printer.specs.Spelled.{first_word, operator, update_sign, opening, closing, operand}
+use Rattle.roopl_printer.specs.Printed.{PrintedToken, a_name, a_sign, a_word}
+use Rattle.roopl_printer.specs.Spelled.{first_word, operator, update_sign, opening, closing, operand_tokens}
 use Rattle.roopl_printer.specs.Spelled.{spelled_expression, in_parentheses, in_brackets, spelled_index, spelled_place}
 use Rattle.roopl_printer.specs.Spelled.{first_place, spelled_creation, spelled_type, spelled_var, spelled_receiver}
 use Rattle.roopl_printer.specs.Spelled.{after_comma, name_alone, spelled_names, spelled_vars, call_word, spelled_target}
@@ -30,10 +30,10 @@ module _ (P : TokenKind → Type 0) (words : (k : Keyword) → P (token.Word k))
   abbrev pub Named : List Ident → Type 0
   Named names = AllByRecursion (λ name. P (token.Name name.text)) names
 
-  abbrev pub Holds : List Printed → Type 0
+  abbrev pub Holds : List PrintedToken → Type 0
   Holds tokens = AllByRecursion (λ t. P t.kind) tokens
 
-  join : (xs ys : List Printed) → Holds xs → Holds ys → Holds (xs ++ ys)
+  join : (xs ys : List PrintedToken) → Holds xs → Holds ys → Holds (xs ++ ys)
   join [] ys a b = b
   join (x ∷ xs) ys a b = (a.0, join xs ys a.1 b)
 
@@ -41,10 +41,10 @@ module _ (P : TokenKind → Type 0) (words : (k : Keyword) → P (token.Word k))
   split [] ys h = (tt, h)
   split (x ∷ xs) ys h = let s = split xs ys h.1 in ((h.0, s.0), s.1)
 
-  brackets : (xs : List Printed) → Holds xs → Holds (in_brackets xs)
+  brackets : (xs : List PrintedToken) → Holds xs → Holds (in_brackets xs)
   brackets xs h = (signs sign.LeftBracket, join xs (a_sign sign.RightBracket ∷ []) h (signs sign.RightBracket, tt))
 
-  parentheses : (xs : List Printed) → Holds xs → Holds (in_parentheses xs)
+  parentheses : (xs : List PrintedToken) → Holds xs → Holds (in_parentheses xs)
   parentheses xs h = (signs sign.LeftParen, join xs (a_sign sign.RightParen ∷ []) h (signs sign.RightParen, tt))
 
   opens : (e : Expression) → Holds (opening e)
@@ -61,7 +61,7 @@ module _ (P : TokenKind → Type 0) (words : (k : Keyword) → P (token.Word k))
   closes (Element name index) = tt
   closes (Binary at op left right) = (signs sign.RightParen, tt)
 
-  operand_of : (e : Expression) → Holds (spelled_expression e) → Holds (operand e (spelled_expression e))
+  operand_of : (e : Expression) → Holds (spelled_expression e) → Holds (operand_tokens e (spelled_expression e))
   operand_of e h = join (opening e ++ spelled_expression e) (closing e)
       (join (opening e) (spelled_expression e) (opens e) h) (closes e)
 
@@ -72,7 +72,7 @@ module _ (P : TokenKind → Type 0) (words : (k : Keyword) → P (token.Word k))
   expression (Element name index) h = (h.0, brackets (spelled_expression index) (expression index h.1))
   expression (Binary at op left right) h =
       let s = split (expression_names left) (expression_names right) h in
-      join (operand left (spelled_expression left)) (a_sign (operator op) ∷ operand right (spelled_expression right))
+      join (operand_tokens left (spelled_expression left)) (a_sign (operator op) ∷ operand_tokens right (spelled_expression right))
       (operand_of left (expression left s.0))
       (signs (operator op), operand_of right (expression right s.1))
 
@@ -164,7 +164,7 @@ module _ (P : TokenKind → Type 0) (words : (k : Keyword) → P (token.Word k))
       join (spelled_creation m) (spelled_place p) (creation m s.0) (place p s.1)
 
   -- a word and what follows it, four times
-  four : (a b c d : List Printed) (first : Printed) (x y z : Keyword) → P first.kind → Holds a → Holds b → Holds c
+  four : (a b c d : List PrintedToken) (first : PrintedToken) (x y z : Keyword) → P first.kind → Holds a → Holds b → Holds c
       → Holds d → Holds (first ∷ a ++ a_word x ∷ b ++ a_word y ∷ c ++ a_word z ∷ d)
   four a b c d first x y z f ha hb hc hd = (
     f,

@@ -12,7 +12,7 @@ use Rattle.roopl_parser.specs.roopl_lexer.declared.token.TokenKind.TheVariants.{
 use Rattle.roopl_parser.specs.Viable.{IsSmall}
 use Rattle.roopl_parser.proofs.Exact.{within}
 use Rattle.roopl_printer.specs.Printable.{IsPrintable, IsSmallNumber, IsOfGrammar}
-use Rattle.roopl_printer.specs.Printed.{Printed}
+use Rattle.roopl_printer.specs.Printed.{PrintedToken}
 use Rattle.roopl_printer.specs.Spelled.{spelled}
 use Rattle.roopl_printer.specs.Laws.{IsReadBack}
 use Rattle.roopl_printer.proofs.NamedTokens.{each_token}
@@ -33,7 +33,7 @@ printable (Name text) name number = name
 printable (Number n) name number = number
 printable (Sign s) name number = tt
 
-printables : (ts : List Printed) → AllByRecursion (λ t. IsRightName t.kind) ts
+printables : (ts : List PrintedToken) → AllByRecursion (λ t. IsRightName t.kind) ts
     → AllByRecursion (λ t. IsSmallNumber t.kind) ts → AllByRecursion (λ t. IsPrintable t.kind) ts
 printables [] names numbers = tt
 printables (t ∷ ts) names numbers = (printable t.kind names.0 numbers.0, printables ts names.1 numbers.1)

@@ -6,7 +6,7 @@ use Rattle.std.proofs.Common.{arith}
 use Rattle.rpp_tree.specs.declared.tree.Var.{Var}
 use Rattle.rpp_tree.specs.declared.limits.TheConstants.{MOST_NODES, MOST_INDEX_DEPTH}
 use Rattle.rpp_tree.specs.Tree.{Expression, Number, Null, Variable, Element, Binary, Lvalue, Whole, Item, Creation}
-use Rattle.rpp_tree.specs.Tree.{Object, Ints, Objects, Statement, Statements, Procedure, Part, Operand, Target, Typed}
+use Rattle.rpp_tree.specs.Tree.{Object, Ints, Objects, Statement, Statements, Procedure, TreePart, Operand, Target, Typed}
 use Rattle.rpp_tree.specs.Tree.{Creates, Invokes, own_parts, each_part, nodes, index_nodes, creation_nodes}
 use Rattle.rpp_tree.specs.Tree.{receiver_nodes, part_nodes, statement_nodes, nesting, depth}
 use Rattle.rpp_tree.specs.Bare.{bare_var, bare_expression, bare_lvalue, bare_receiver, bare_creation, bare_part}
@@ -61,21 +61,21 @@ same_receiver_locals None = refl
 same_receiver_locals (Some (Whole name)) = refl
 same_receiver_locals (Some (Item name index)) = refl
 
-same_part_nodes : (p : Part) → part_nodes (bare_part p) ≡ part_nodes p
+same_part_nodes : (p : TreePart) → part_nodes (bare_part p) ≡ part_nodes p
 same_part_nodes (Operand value) = same_nodes value
 same_part_nodes (Target place) = same_index_nodes place
 same_part_nodes (Typed kind place) = same_index_nodes place
 same_part_nodes (Creates made) = same_creation_nodes made
 same_part_nodes (Invokes receiver method args) = same_receiver_nodes receiver
 
-same_part_depth : (p : Part) → part_index_depth (bare_part p) ≡ part_index_depth p
+same_part_depth : (p : TreePart) → part_index_depth (bare_part p) ≡ part_index_depth p
 same_part_depth (Operand value) = same_index_depth value
 same_part_depth (Target place) = same_place_depth place
 same_part_depth (Typed kind place) = same_place_depth place
 same_part_depth (Creates made) = same_creation_depth made
 same_part_depth (Invokes receiver method args) = same_receiver_depth receiver
 
-same_part_locals : (p : Part) → part_locals (bare_part p) ≡ part_locals p
+same_part_locals : (p : TreePart) → part_locals (bare_part p) ≡ part_locals p
 same_part_locals (Invokes receiver method args) = same_receiver_locals receiver
 same_part_locals (Operand value) = refl
 same_part_locals _ = refl

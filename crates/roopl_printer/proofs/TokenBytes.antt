@@ -17,7 +17,7 @@ use Rattle.roopl_parser.specs.roopl_lexer.declared.token.Keyword.TheVariants as 
 use Rattle.roopl_parser.specs.roopl_lexer.declared.token.Symbol.{Symbol}
 use Rattle.roopl_parser.specs.roopl_lexer.declared.token.Symbol.TheVariants as sign
 use Rattle.roopl_parser.specs.roopl_lexer.Signs.{keyword_bytes, sign_bytes}
-use Rattle.roopl_printer.specs.Printed.{Printed, kind_bytes, with_gaps, with_gap, gap, text_of}
+use Rattle.roopl_printer.specs.Printed.{PrintedToken, kind_bytes, with_gaps, with_gap, gap, printed_text}
 use Rattle.roopl_printer.specs.Spelled.{spelled, printed}
 use Rattle.roopl_printer.proofs.NamedTokens.{each_token}
 
@@ -76,7 +76,7 @@ ascii_from : (test : ℕ → Bool) (bytes : List ℕ) → ((b : ℕ) → test b 
 ascii_from test bytes ascii pass = IsAscii-from_all bytes
     (All-weaker (λ b. test b ≡ true) (λ b. b < 128) ascii bytes pass)
 
-gaps_ascii : (tokens : List Printed) → AllByRecursion (λ t. IsAscii (kind_bytes t.kind)) tokens
+gaps_ascii : (tokens : List PrintedToken) → AllByRecursion (λ t. IsAscii (kind_bytes t.kind)) tokens
     → IsAscii (with_gaps tokens)
 gaps_ascii [] h = IsAscii-nil
 gaps_ascii (t ∷ tokens) h = IsAscii-append (with_gap t) (with_gaps tokens)
@@ -86,8 +86,8 @@ gaps_ascii (t ∷ tokens) h = IsAscii-append (with_gap t) (with_gaps tokens)
     gap_ascii true = omega arith
     gap_ascii false = omega arith
 
-text_ascii : (tokens : List Printed) → AllByRecursion (λ t. IsAscii (kind_bytes t.kind)) tokens
-    → IsAscii (text_of tokens)
+text_ascii : (tokens : List PrintedToken) → AllByRecursion (λ t. IsAscii (kind_bytes t.kind)) tokens
+    → IsAscii (printed_text tokens)
 text_ascii [] h = IsAscii-nil
 text_ascii (t ∷ tokens) h =
     IsAscii-append (kind_bytes t.kind ++ with_gaps tokens) (10 ∷ [])

@@ -9,26 +9,26 @@ use Rattle.roopl_parser.specs.roopl_lexer.declared.token.TokenKind.TheVariants.{
 use Rattle.roopl_parser.specs.roopl_lexer.Signs.{keyword_bytes, sign_bytes}
 
 -- a printed token, and whether it begins a line
-pub record Printed : Type 0 where
+pub record PrintedToken : Type 0 where
   pub kind : TokenKind
   pub fresh : Bool
 
 -- the first token of a line
-abbrev pub first : TokenKind → Printed
+abbrev pub first : TokenKind → PrintedToken
 first kind = record { kind = kind; fresh = true }
 
 -- a token after others on its line
-abbrev pub behind : TokenKind → Printed
-behind kind = record { kind = kind; fresh = false }
+abbrev pub printed_behind : TokenKind → PrintedToken
+printed_behind kind = record { kind = kind; fresh = false }
 
-abbrev pub a_word : Keyword → Printed
-a_word keyword = behind (Word keyword)
+abbrev pub a_word : Keyword → PrintedToken
+a_word keyword = printed_behind (Word keyword)
 
-abbrev pub a_name : Ident → Printed
-a_name name = behind (Name name.text)
+abbrev pub a_name : Ident → PrintedToken
+a_name name = printed_behind (Name name.text)
 
-abbrev pub a_sign : Symbol → Printed
-a_sign sign = behind (Sign sign)
+abbrev pub a_sign : Symbol → PrintedToken
+a_sign sign = printed_behind (Sign sign)
 
 -- the bytes of a token: a number is written in decimal, without leading zeros
 abbrev pub kind_bytes : TokenKind → List ℕ
@@ -43,14 +43,14 @@ gap true = 10
 gap false = 32
 
 -- a token with what comes before it
-abbrev pub with_gap : Printed → List ℕ
+abbrev pub with_gap : PrintedToken → List ℕ
 with_gap token = gap token.fresh ∷ kind_bytes token.kind
 
 -- tokens with what comes before each
-abbrev pub with_gaps : List Printed → List ℕ
+abbrev pub with_gaps : List PrintedToken → List ℕ
 with_gaps tokens = flat_map with_gap tokens
 
 -- the text of tokens: nothing comes before the first, and a line feed after the last
-abbrev pub text_of : List Printed → List ℕ
-text_of [] = []
-text_of (token ∷ tokens) = kind_bytes token.kind ++ with_gaps tokens ++ 10 ∷ []
+abbrev pub printed_text : List PrintedToken → List ℕ
+printed_text [] = []
+printed_text (token ∷ tokens) = kind_bytes token.kind ++ with_gaps tokens ++ 10 ∷ []

@@ -19,7 +19,7 @@ use Rattle.roopl_parser.specs.roopl_lexer.declared.token.Keyword.TheVariants as 
 use Rattle.roopl_parser.specs.roopl_lexer.declared.token.Symbol.{Symbol}
 use Rattle.roopl_parser.specs.roopl_lexer.declared.token.Symbol.TheVariants as sign
 use Rattle.roopl_parser.specs.roopl_lexer.declared.token.TokenKind.TheVariants as token
-use Rattle.roopl_printer.specs.Printed.{Printed, first, behind, a_word, a_name, a_sign, text_of}
+use Rattle.roopl_printer.specs.Printed.{PrintedToken, first, printed_behind, a_word, a_name, a_sign, printed_text}
 
 -- the sign of an operator
 abbrev pub operator : BinOp → Symbol
@@ -45,80 +45,80 @@ update_sign update.Add = sign.AddTo
 update_sign update.Sub = sign.SubFrom
 update_sign update.Xor = sign.XorInto
 
-abbrev pub in_parentheses : List Printed → List Printed
+abbrev pub in_parentheses : List PrintedToken → List PrintedToken
 in_parentheses tokens = a_sign sign.LeftParen ∷ tokens ++ a_sign sign.RightParen ∷ []
 
-abbrev pub in_brackets : List Printed → List Printed
+abbrev pub in_brackets : List PrintedToken → List PrintedToken
 in_brackets tokens = a_sign sign.LeftBracket ∷ tokens ++ a_sign sign.RightBracket ∷ []
 
 -- the parentheses round an operand: only a binary expression has them
-abbrev pub opening : Expression → List Printed
+abbrev pub opening : Expression → List PrintedToken
 opening (Binary at op left right) = a_sign sign.LeftParen ∷ []
 opening _ = []
 
-abbrev pub closing : Expression → List Printed
+abbrev pub closing : Expression → List PrintedToken
 closing (Binary at op left right) = a_sign sign.RightParen ∷ []
 closing _ = []
 
 -- the tokens of an operand
-abbrev pub operand : Expression → List Printed → List Printed
-operand e tokens = opening e ++ tokens ++ closing e
+abbrev pub operand_tokens : Expression → List PrintedToken → List PrintedToken
+operand_tokens e tokens = opening e ++ tokens ++ closing e
 
-abbrev pub spelled_expression : Expression → List Printed
-spelled_expression (Number at n) = behind (token.Number n) ∷ []
+abbrev pub spelled_expression : Expression → List PrintedToken
+spelled_expression (Number at n) = printed_behind (token.Number n) ∷ []
 spelled_expression (Null at) = a_word word.Nil ∷ []
 spelled_expression (Variable name) = a_name name ∷ []
 spelled_expression (Element name index) = a_name name ∷ in_brackets (spelled_expression index)
 spelled_expression (Binary at op left right) =
-    operand left (spelled_expression left) ++ a_sign (operator op)
-    ∷ operand right (spelled_expression right)
+    operand_tokens left (spelled_expression left) ++ a_sign (operator op)
+    ∷ operand_tokens right (spelled_expression right)
 
 -- what follows the name of a place
-abbrev pub spelled_index : Lvalue → List Printed
+abbrev pub spelled_index : Lvalue → List PrintedToken
 spelled_index (Whole name) = []
 spelled_index (Item name index) = in_brackets (spelled_expression index)
 
-abbrev pub spelled_place : Lvalue → List Printed
+abbrev pub spelled_place : Lvalue → List PrintedToken
 spelled_place place = a_name (place_name place) ∷ spelled_index place
 
 -- a place at the beginning of a statement
-abbrev pub first_place : Lvalue → List Printed
+abbrev pub first_place : Lvalue → List PrintedToken
 first_place place = first (token.Name (place_name place).text) ∷ spelled_index place
 
-abbrev pub spelled_creation : Creation → List Printed
+abbrev pub spelled_creation : Creation → List PrintedToken
 spelled_creation (Object class) = a_name class ∷ []
 spelled_creation (Ints length) = a_word word.Int ∷ in_brackets (spelled_expression length)
 spelled_creation (Objects class length) = a_name class ∷ in_brackets (spelled_expression length)
 
-abbrev pub spelled_type : VarType → List Printed
+abbrev pub spelled_type : VarType → List PrintedToken
 spelled_type type.Int = a_word word.Int ∷ []
 spelled_type (type.Class class) = a_name class ∷ []
 spelled_type type.IntArray = a_word word.Int ∷ in_brackets []
 spelled_type (type.ClassArray class) = a_name class ∷ in_brackets []
 
 -- a type and a name
-abbrev pub spelled_var : Var → List Printed
+abbrev pub spelled_var : Var → List PrintedToken
 spelled_var var = spelled_type var.kind ++ a_name var.name ∷ []
 
-abbrev pub spelled_receiver : Option Lvalue → List Printed
+abbrev pub spelled_receiver : Option Lvalue → List PrintedToken
 spelled_receiver None = []
 spelled_receiver (Some place) = spelled_place place ++ a_sign sign.DoubleColon ∷ []
 
-abbrev pub after_comma : {A : Type 0} → (A → List Printed) → A → List Printed
+abbrev pub after_comma : {A : Type 0} → (A → List PrintedToken) → A → List PrintedToken
 after_comma spell x = a_sign sign.Comma ∷ spell x
 
 -- the parts of a list with a comma between two of them
-abbrev pub with_commas : {A : Type 0} → (A → List Printed) → List A → List Printed
+abbrev pub with_commas : {A : Type 0} → (A → List PrintedToken) → List A → List PrintedToken
 with_commas spell [] = []
 with_commas spell (one ∷ more) = spell one ++ flat_map (after_comma spell) more
 
-abbrev pub name_alone : Ident → List Printed
+abbrev pub name_alone : Ident → List PrintedToken
 name_alone name = a_name name ∷ []
 
-abbrev pub spelled_names : List Ident → List Printed
+abbrev pub spelled_names : List Ident → List PrintedToken
 spelled_names names = with_commas name_alone names
 
-abbrev pub spelled_vars : List Var → List Printed
+abbrev pub spelled_vars : List Var → List PrintedToken
 spelled_vars vars = with_commas spelled_var vars
 
 abbrev pub call_word : Bool → Keyword
@@ -126,20 +126,20 @@ call_word false = word.Call
 call_word true = word.Uncall
 
 -- a word at the beginning of a statement, a method or a class
-abbrev pub first_word : Keyword → Printed
+abbrev pub first_word : Keyword → PrintedToken
 first_word keyword = first (token.Word keyword)
 
 -- what a call calls, with the arguments
-abbrev pub spelled_target : Option Lvalue → Ident → List Ident → List Printed
+abbrev pub spelled_target : Option Lvalue → Ident → List Ident → List PrintedToken
 spelled_target receiver method args =
     spelled_receiver receiver ++ a_name method ∷ in_parentheses (spelled_names args)
 
 -- a variable with its type, and the value that it is said to have
-abbrev pub spelled_binding : Var → Expression → List Printed
+abbrev pub spelled_binding : Var → Expression → List PrintedToken
 spelled_binding var value = spelled_var var ++ a_sign sign.Equal ∷ spelled_expression value
 
 abbrev mutual
-  pub spelled_statement : Statement → List Printed
+  pub spelled_statement : Statement → List PrintedToken
   spelled_statement (Update at op target value) =
       first_place target ++ a_sign (update_sign op) ∷ spelled_expression value
   spelled_statement (Swap at left right) = first_place left ++ a_sign sign.Swap
@@ -168,26 +168,26 @@ abbrev mutual
       first_word (call_word back) ∷ spelled_target receiver method args
   spelled_statement (Skip at) = first_word word.Skip ∷ []
 
-  pub spelled_block : Statements → List Printed
+  pub spelled_block : Statements → List PrintedToken
   spelled_block End = []
   spelled_block (Then one more) = spelled_statement one ++ spelled_block more
 
-abbrev pub spelled_method : Procedure → List Printed
+abbrev pub spelled_method : Procedure → List PrintedToken
 spelled_method method = first_word word.Method ∷ a_name method.name
     ∷ in_parentheses (spelled_vars method.params) ++ spelled_block method.body
 
-abbrev pub spelled_parent : Option Ident → List Printed
+abbrev pub spelled_parent : Option Ident → List PrintedToken
 spelled_parent None = []
 spelled_parent (Some parent) = a_word word.Inherits ∷ a_name parent ∷ []
 
-abbrev pub spelled_class : ClassText → List Printed
+abbrev pub spelled_class : ClassText → List PrintedToken
 spelled_class class = first_word word.Class ∷ a_name class.name ∷ spelled_parent class.parent
     ++ flat_map spelled_var class.fields ++ flat_map spelled_method class.methods
 
 -- the tokens of a program
-abbrev pub spelled : Source → List Printed
+abbrev pub spelled : Source → List PrintedToken
 spelled program = flat_map spelled_class program.classes
 
 -- the text of a program
 abbrev pub printed : Source → List ℕ
-printed program = text_of (spelled program)
+printed program = printed_text (spelled program)

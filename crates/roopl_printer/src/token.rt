@@ -1,6 +1,6 @@
 // Tokens, each with the space or the line feed before it.
 ghost use Rattle.std.specs.Prelude.{◌≡◌, ◌∷◌, ◌++◌, [], OnOk, decimal};
-ghost use Rattle.roopl_printer.specs.Printed.{with_gap, a_name, a_sign, behind, first};
+ghost use Rattle.roopl_printer.specs.Printed.{with_gap, a_name, a_sign, printed_behind, first};
 ghost use Rattle.roopl_printer.specs.Spelled.{operator, update_sign};
 ghost use Rattle.roopl_parser.specs.roopl_lexer.declared.token.TokenKind.TheVariants.{Name, Number};
 
@@ -33,7 +33,7 @@ pub(crate) fn put_first_name(out: &mut Vec<u8>, name: &Ident) -> Result<(), NoMe
 
 /// Adds a number.
 pub(crate) fn put_number(out: &mut Vec<u8>, number: u32) -> Result<(), NoMemory>
-    ensures { OnOk result (out.new.items ≡ out.old.items ++ with_gap (behind (Number number))) }
+    ensures { OnOk result (out.new.items ≡ out.old.items ++ with_gap (printed_behind (Number number))) }
 {
     let mut buffer = Buffer::new();
     put(out, b" ")?;

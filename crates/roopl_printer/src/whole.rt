@@ -4,7 +4,7 @@ ghost use Rattle.std.specs.List.{flat_map};
 ghost use Rattle.std.specs.Str.{IsAscii};
 ghost use Rattle.rpp_tree.specs.Parts.{source_names};
 ghost use Rattle.rpp_tree.specs.Views.{procedure_of, class_text_of, source_of};
-ghost use Rattle.roopl_printer.specs.Printed.{with_gaps, text_of};
+ghost use Rattle.roopl_printer.specs.Printed.{with_gaps, printed_text};
 ghost use Rattle.roopl_printer.specs.Spelled.{printed, spelled_class, spelled_method, spelled_parent};
 
 use crate::code::put_block;
@@ -33,7 +33,7 @@ pub fn print(alloc: Global, program: &Program) -> Result<String, NoMemory>
 /// The bytes of the text of classes.
 fn print_bytes(alloc: Global, classes: &[Class]) -> Result<Vec<u8>, NoMemory>
     ensures { IfOk result (λ bytes. bytes.items
-        ≡ text_of (flat_map spelled_class (map class_text_of classes.now))) }
+        ≡ printed_text (flat_map spelled_class (map class_text_of classes.now))) }
 {
     let mut out = Vec::new(alloc);
     for class in classes {
@@ -45,7 +45,7 @@ fn print_bytes(alloc: Global, classes: &[Class]) -> Result<Vec<u8>, NoMemory>
 /// Adds the lines of a class.
 fn put_class(out: &mut Vec<u8>, class: &Class) -> Result<(), NoMemory>
     ensures { OnOk result (out.new.items ≡ out.old.items
-        ++ text_of (spelled_class (class_text_of class.now))) }
+        ++ printed_text (spelled_class (class_text_of class.now))) }
 {
     put(out, b"class")?;
     put_name(out, &class.name)?;

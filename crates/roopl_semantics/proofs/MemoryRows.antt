@@ -8,7 +8,7 @@ use Rattle.roopl_semantics.specs.Store.{State}
 use Rattle.roopl_semantics.specs.Source.{source, starting}
 use Rattle.code_conventions.specs.pisa_isa.Loaded.{loaded}
 use Rattle.roopl_semantics.specs.Layout.{main_statics, tables, layout}
-use Rattle.roopl_semantics.specs.Walk.{counted}
+use Rattle.roopl_semantics.specs.Walk.{counted_live}
 use Rattle.roopl_semantics.proofs.Testing.{word_for}
 use Rattle.roopl_semantics.proofs.IntRows.{adds-text}
 use Rattle.roopl_semantics.proofs.ObjectRows.{one_object-text, ring-text}
@@ -55,11 +55,11 @@ adds-loaded = refl
 ring-length : length (memory ring-text 3 2 ((5 ∷ []) ∷ (7 ∷ 9 ∷ []) ∷ [])) ≡ 1088
 ring-length = refl
 
-ring-counted : counted ring-text (memory ring-text 3 2 ((5 ∷ []) ∷ (7 ∷ 9 ∷ []) ∷ [])) ≡ 2
+ring-counted : counted_live ring-text (memory ring-text 3 2 ((5 ∷ []) ∷ (7 ∷ 9 ∷ []) ∷ [])) ≡ 2
 ring-counted = refl
 
-two_objects-counted : counted one_object-text (memory one_object-text 1 1 ((5 ∷ []) ∷ (7 ∷ []) ∷ [])) ≡ 1
+two_objects-counted : counted_live one_object-text (memory one_object-text 1 1 ((5 ∷ []) ∷ (7 ∷ []) ∷ [])) ≡ 1
 two_objects-counted = refl
 
-adds-counted : counted adds-text (memory adds-text 1 1 ((7 ∷ []) ∷ [])) ≡ 0
+adds-counted : counted_live adds-text (memory adds-text 1 1 ((7 ∷ []) ∷ [])) ≡ 0
 adds-counted = refl

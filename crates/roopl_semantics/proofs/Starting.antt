@@ -25,7 +25,7 @@ use Rattle.class_rules.specs.Classes.{main_of}
 use Rattle.buddy_book.specs.rpp_words.Limits.{IsLimits}
 use Rattle.roopl_semantics.specs.Alone.{alone}
 use Rattle.roopl_semantics.specs.Laws.{StartsLoaded}
-use Rattle.roopl_semantics.specs.Layout.{table_at, main_statics, tables, with_book, word_of, overlaid, static_words}
+use Rattle.roopl_semantics.specs.Layout.{table_at, main_statics, tables, with_book, word_of_value, overlaid, static_words}
 use Rattle.roopl_semantics.specs.Layout.{layout}
 use Rattle.buddy_book.specs.Shown.{first_address}
 
@@ -203,13 +203,13 @@ with_book-start base zero m some = refl
 with_book-start base (suc zero) m some = overlaid-zeros m some
 with_book-start base (suc (suc h)) m some = with_book-start base (suc h) m some
 
-plain_word : (base : ℕ) (v : Value) → IsPlain v → word_of base [] v ≡ number_of v
+plain_word : (base : ℕ) (v : Value) → IsPlain v → word_of_value base [] v ≡ number_of v
 plain_word base _ (word w) = refl
 plain_word base _ nil = refl
 
-plain_words : (base : ℕ) (values : List Value) → ArePlain values → map (word_of base []) values ≡ words_of values
+plain_words : (base : ℕ) (values : List Value) → ArePlain values → map (word_of_value base []) values ≡ words_of values
 plain_words base _ none = refl
-plain_words base _ (more v values is are) = ap (λ w. w ∷ map (word_of base []) values) (plain_word base v is)
+plain_words base _ (more v values is are) = ap (λ w. w ∷ map (word_of_value base []) values) (plain_word base v is)
     ∙ ap (λ (rest : List ℕ). number_of v ∷ rest) (plain_words base values are)
 
 statics_with : (shape : Shape) (words : List ℕ) → length words ≡ shape.fields

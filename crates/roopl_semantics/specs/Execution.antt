@@ -101,8 +101,8 @@ abbrev pub order_of_cells : ℕ → ℕ
 order_of_cells cells = order_for (HEADER_WORDS + cells)
 
 -- the count of an object changes
-abbrev pub counted : (ℕ → ℕ) → State → ℕ → State
-counted change st name =
+abbrev pub count_changed : (ℕ → ℕ) → State → ℕ → State
+count_changed change st name =
     record st {
       store = changed_at st.store name
           (λ object. record object { count = change object.count });
@@ -291,7 +291,7 @@ module _ (setting : Setting) where
         (index_elements source ++ index_elements target) st
     _ ← fault_if NIL (is_nil (read st a))
     _ ← fault_if NOT_NIL (not (is_nil (read st b)))
-    give (counted suc (written st b (read st a)) (number_of (read st a)))
+    give (count_changed suc (written st b (read st a)) (number_of (read st a)))
   statement n run (Uncopy at kind source target) st = do
     a ← found setting.program source st
     b ← found setting.program target st
@@ -299,7 +299,7 @@ module _ (setting : Setting) where
         (index_elements source ++ index_elements target) st
     _ ← fault_if NIL (is_nil (read st a))
     _ ← fault_if NOT_SAME (not (same_value (read st a) (read st b)) || same_cell a b)
-    give (counted one_less (written st b Nil) (number_of (read st a)))
+    give (count_changed one_less (written st b Nil) (number_of (read st a)))
   statement n run (Call at back None method args) st = do
     _ ← spend (length args)
     _ ← fault_if TOO_DEEP (is_too_deep st)

@@ -61,10 +61,10 @@ overlaid words at new = take at words ++ take (length words - at) new
     ++ drop (at + length new) words
 
 -- what a cell holds: a reference is the address of its block
-abbrev pub word_of : ℕ → List (ℕ × ℕ) → Value → ℕ
-word_of base blocks (Word w) = w
-word_of base blocks Nil = 0
-word_of base blocks (Name n) = base + block_of blocks n
+abbrev pub word_of_value : ℕ → List (ℕ × ℕ) → Value → ℕ
+word_of_value base blocks (Word w) = w
+word_of_value base blocks Nil = 0
+word_of_value base blocks (Name n) = base + block_of blocks n
 
 -- an object begins with its class's table's address, an array with its length
 abbrev pub head_word : Source → Head → ℕ
@@ -75,7 +75,7 @@ head_word program (OfObjects class length) = length
 -- the words of an object or array: its head, its count and its cells
 abbrev pub object_words : Source → ℕ → List (ℕ × ℕ) → Object → List ℕ
 object_words program base blocks object =
-    header (head_word program object.head) object.count ++ map (word_of base blocks) object.cells
+    header (head_word program object.head) object.count ++ map (word_of_value base blocks) object.cells
 
 -- the first word of each free block of a list is the address of the next
 abbrev pub with_links : ℕ → List ℕ → List ℕ → List ℕ

@@ -155,19 +155,19 @@ met_from (suc steps) program cells address =
 abbrev pub met_blocks : Source → List ℕ → List Block
 met_blocks program cells = met_from (length cells) program cells (heap_start cells)
 
-abbrev pub count_taken : List Block → ℕ
-count_taken [] = 0
-count_taken (block ∷ blocks) = (if block.is_free then 0 else 1) + count_taken blocks
+abbrev pub count_taken_blocks : List Block → ℕ
+count_taken_blocks [] = 0
+count_taken_blocks (block ∷ blocks) = (if block.is_free then 0 else 1) + count_taken_blocks blocks
 
 -- how many blocks that are not free the walk meets
-abbrev pub counted : Source → List ℕ → ℕ
-counted program cells = count_taken (met_blocks program cells)
+abbrev pub counted_live : Source → List ℕ → ℕ
+counted_live program cells = count_taken_blocks (met_blocks program cells)
 
 -- the number in the last line of a run's report: of live objects, or what the cells allow to count
 -- if they hide an array
 abbrev pub live_shown : Source → Store → List ℕ → ℕ
 live_shown program store cells = if is_plain program store then live_count store
-    else counted program cells
+    else counted_live program cells
 
 -- the report of a run that ended with this store and these cells
 abbrev pub run_report : Source → Store → List ℕ → Text

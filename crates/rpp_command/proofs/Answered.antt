@@ -17,7 +17,7 @@ use Rattle.plan_serving.specs.Outside.{Shelved, Printed, HasPut}
 use Rattle.rpp_command.specs.Answers.{Answers, words_refused}
 use Rattle.plan_serving.specs.Finishes.{Finishes}
 use Rattle.rpp_command.specs.Serving.{PlansRead, StopsPlan}
-use Rattle.plan_serving.specs.Finishes.{put_answer, ended}
+use Rattle.plan_serving.specs.Finishes.{put_answer, ended_status}
 use Rattle.plan_serving.proofs.Fetched.{some_none}
 use Rattle.plan_serving.proofs.Finished.{puts_by}
 
@@ -57,7 +57,7 @@ pub lacked : (line : Asked) (probes kept : List Watch) (rose : Type 0) (told tol
     → HasPut said (put_answer r) out out'
     → Answers (Some line) probes kept rose (record { texts = told; calls = old })
     (record { texts = told'; calls = new })
-    out out' (ended 2 r)
+    out out' (ended_status 2 r)
 unfolding Answers
 lacked line probes kept rose told told' old new out out' none.NoMemory said r same is stops h = absurd is
 lacked line probes kept rose told told' old new out out' (none.Unread text) said r same is stops h = inr (inl (record {
@@ -96,12 +96,12 @@ not_read (Some line) probes rose shelf out status is = inr (inr (record {
 -- words that are no line
 pub refused : (asked : Option Asked) (probes : List Watch) (rose : Type 0) (shelf : Shelved) (out out' : Printed)
     (said : List ℕ) (r : Result (Unit {0}) Broken) (status : ℕ) → asked ≡ None → said ≡ words_refused
-    → HasPut said (put_answer r) out out' → status ≡ ended 1 r
+    → HasPut said (put_answer r) out out' → status ≡ ended_status 1 r
     → Answers asked probes probes rose shelf shelf out out' status
 unfolding Answers
 refused asked probes rose shelf out out' said r status none is h by =
     subst (λ (it : ℕ). Answers asked probes probes rose shelf shelf out out' it) (sym by)
-    (subst (λ (it : Option Asked). Answers it probes probes rose shelf shelf out out' (ended 1 r)) (sym none) (record {
+    (subst (λ (it : Option Asked). Answers it probes probes rose shelf shelf out out' (ended_status 1 r)) (sym none) (record {
       puts = inl (puts_by words_refused 1 out out' r (subst (λ t. HasPut t (put_answer r) out out') is h));
       same = refl;
       untold = refl;

@@ -9,7 +9,7 @@ use Rattle.command_line.specs.command_plan.command_ends.declared.status.Broken.{
 use Rattle.command_line.specs.command_plan.command_ends.declared.status.Broken.TheVariants.{Outside, NoMemory}
 use Rattle.command_line.specs.Lines.{Asked, Turn, Profile}
 use Rattle.rpp_command.specs.Plans.{IsPlan, LeavesProbes}
-use Rattle.plan_serving.specs.Left.{LeavesUnwritten, BreaksOff}
+use Rattle.plan_serving.specs.Left.{LeavesUnwritten, AbortsServing}
 use Rattle.rpp_command.specs.Told.{EndsEarly}
 use Rattle.plan_serving.proofs.Fetched.{rose_before}
 
@@ -32,8 +32,8 @@ file_by before after rose rose' failed lacks old new (Some w) broken f h =
 
 breaks_by : (before after : Option Texts) (rose rose' failed lacks : Type 0) (old new : Option (List ℕ)) (p : Planned)
     (broken : Broken) → (rose → rose')
-    → BreaksOff before after rose failed lacks old new p broken
-    → BreaksOff before after rose' failed lacks old new p broken
+    → AbortsServing before after rose failed lacks old new p broken
+    → AbortsServing before after rose' failed lacks old new p broken
 breaks_by before after rose rose' failed lacks old new p broken f (inl at_file) =
     inl (file_by before after rose rose' failed lacks old new p.writing broken f at_file)
 breaks_by before after rose rose' failed lacks old new p broken f (inr at_text) = inr at_text
@@ -42,7 +42,7 @@ breaks_by before after rose rose' failed lacks old new p broken f (inr at_text) 
 pub ends_early : (line : Asked) (probes kept : List Watch) (told mid after : Option Texts) (before at now : ℕ)
     (failed lacks : Type 0) (old new : Option (List ℕ)) (p : Planned) (broken : Broken)
     → (count made : ℕ) → count ≡ 0 → IsPlan line probes kept count made told p → mid ≡ told → before ≤ at
-    → BreaksOff mid after (Rose at now) failed lacks old new p broken
+    → AbortsServing mid after (Rose at now) failed lacks old new p broken
     → EndsEarly (Some line) probes kept told (Rose before now) failed lacks after old new broken
 ends_early line probes kept told mid after before at now failed lacks old new p broken count made none is same later h =
     inr (record {
@@ -51,7 +51,7 @@ ends_early line probes kept told mid after before at now failed lacks old new p 
       is_plan = subst (λ (n : ℕ). IsPlan line probes kept n made told p) none is;
       broken_off = breaks_by told after (Rose at now) (Rose before now) failed lacks old new p broken
           (rose_before before at now later)
-          (subst (λ (texts : Option Texts). BreaksOff texts after (Rose at now) failed lacks old new p broken) same h);
+          (subst (λ (texts : Option Texts). AbortsServing texts after (Rose at now) failed lacks old new p broken) same h);
     })
 
 keeps_same : (written : Option (List ℕ)) → Keeps written written

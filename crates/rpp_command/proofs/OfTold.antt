@@ -14,7 +14,7 @@ use Rattle.command_line.specs.command_plan.pisa_asm.declared.assembler.TheConsta
 use Rattle.command_line.specs.command_plan.declared.reading.TheConstants.{MOST_IMAGE}
 use Rattle.command_line.specs.command_plan.Files.{image_file}
 use Rattle.command_line.specs.command_plan.Plans.{Planned, WithText, WithInput, WithState}
-use Rattle.command_line.specs.command_plan.Reads.{Gave, read}
+use Rattle.command_line.specs.command_plan.Reads.{Gave, read_event}
 use Rattle.cluster_commands.specs.ClusterPlans.{WithImages}
 use Rattle.image_commands.specs.ImagePlans.{IsAsmPlan, IsListPlan, IsFlipPlan, IsRunPlan}
 use Rattle.image_commands.specs.DebugPlans.{IsDebugPlan}
@@ -53,7 +53,7 @@ images_told told [] (text ∷ texts) old new P gave h = absurd gave
 images_told told (image ∷ images) [] old new P gave h = absurd gave
 images_told told (image ∷ images) (text ∷ texts) old new P gave h =
     text_told told image MOST_IMAGE text (λ (bytes : List ℕ). WithImages told images (λ rest. P (bytes ∷ rest))) gave.0
-    (images_told told images texts (read (image_file image) (Ok text) ∷ old) new (λ rest. P (text ∷ rest)) gave.1 h)
+    (images_told told images texts (read_event (image_file image) (Ok text) ∷ old) new (λ rest. P (text ∷ rest)) gave.1 h)
 
 pub plan_told : (line : Asked) (before after : List Watch) (count counted : ℕ) (told : Option Texts)
     (texts : List (List ℕ)) (old new : List Event) (p : Planned) → Gave told (files_of line) texts old new
@@ -110,8 +110,8 @@ plan_told (Cluster script cells images) before after count counted told [] old n
     absurd gave
 plan_told (Cluster script cells images) before after count counted told (text ∷ texts) old new p gave h =
     text_told told script MOST_SCRIPT text (λ (text : List ℕ). WithImages told images
-    (λ read. IsClusterPlan (images_at read) text cells p)) gave.0
-    (images_told told images texts _ new (λ read. IsClusterPlan (images_at read) text cells p) gave.1 h)
+    (λ read_event. IsClusterPlan (images_at read_event) text cells p)) gave.0
+    (images_told told images texts _ new (λ read_event. IsClusterPlan (images_at read_event) text cells p) gave.1 h)
 plan_told (RunImage image sizes None save) before after count counted told [] old new p gave h =
     absurd gave
 plan_told (RunImage image sizes None save) before after count counted told (bytes ∷ other ∷ texts) old new p

@@ -13,7 +13,7 @@ use Rattle.command_line.specs.command_plan.pisa_asm.declared.assembler.TheConsta
 use Rattle.command_line.specs.command_plan.declared.reading.TheConstants.{MOST_IMAGE}
 use Rattle.command_line.specs.command_plan.Files.{image_file}
 use Rattle.command_line.specs.command_plan.Plans.{Planned, WithText, WithInput, WithState, IsStateText}
-use Rattle.command_line.specs.command_plan.Reads.{Gave, read}
+use Rattle.command_line.specs.command_plan.Reads.{Gave, read_event}
 use Rattle.plan_serving.specs.Places.{HasPlaces}
 use Rattle.cluster_commands.specs.ClusterPlans.{WithImages}
 use Rattle.image_commands.specs.ImagePlans.{IsAsmPlan, IsListPlan, IsFlipPlan, IsRunPlan}
@@ -71,7 +71,7 @@ images_at_places told held place [] [] old new P gave has h = h
 images_at_places told held place [] (text ∷ texts) old new P gave has h = absurd gave
 images_at_places told held place (image ∷ images) [] old new P gave has h = absurd gave
 images_at_places told held place (image ∷ images) (text ∷ texts) old new P gave has h =
-    images_at_places told held (97 ∷ place) images texts (read (image_file image) (Ok text) ∷ old) new
+    images_at_places told held (97 ∷ place) images texts (read_event (image_file image) (Ok text) ∷ old) new
     (λ rest. P (text ∷ rest)) gave.1 has.1
     (text_at held place MOST_IMAGE text
     (λ bytes. WithImages (Some held) (names_from (97 ∷ place) images) (λ rest. P (bytes ∷ rest))) has.0 h)
@@ -133,9 +133,9 @@ plan_of_texts (Generate seed size out) before after count counted told held (tex
 plan_of_texts (Cluster script cells images) before after count counted told held [] old new p gave has h =
     absurd gave
 plan_of_texts (Cluster script cells images) before after count counted told held (text ∷ texts) old new p gave has h =
-    images_at_places told held (97 ∷ []) images texts _ new (λ read. IsClusterPlan (images_at read) text cells p) gave.1
+    images_at_places told held (97 ∷ []) images texts _ new (λ read_event. IsClusterPlan (images_at read_event) text cells p) gave.1
     has.1 (text_at held [] MOST_SCRIPT text (λ (text : List ℕ). WithImages (Some held) (names_from (97 ∷ []) images)
-    (λ read. IsClusterPlan (images_at read) text cells p)) has.0 h)
+    (λ read_event. IsClusterPlan (images_at read_event) text cells p)) has.0 h)
 plan_of_texts (RunImage image sizes None save) before after count counted told held [] old new p gave has h =
     absurd gave
 plan_of_texts (RunImage image sizes None save) before after count counted told held (bytes ∷ other ∷ texts)

@@ -21,14 +21,14 @@ use Rattle.command_line.specs.Lines.{Generate, Cluster, RunImage, Debug, Trace, 
 use Rattle.command_line.specs.Lines.{Wrap, Explain}
 
 -- of the texts of further files, that of an input, which is empty where there is none
-abbrev pub input_of : List (List ℕ) → List ℕ
-input_of [] = []
-input_of (text ∷ texts) = text
+abbrev pub input_text : List (List ℕ) → List ℕ
+input_text [] = []
+input_text (text ∷ texts) = text
 
 -- and that of a state, where there is one
-abbrev pub state_of : List (List ℕ) → Option (List ℕ)
-state_of [] = None
-state_of (text ∷ texts) = Some text
+abbrev pub given_state : List (List ℕ) → Option (List ℕ)
+given_state [] = None
+given_state (text ∷ texts) = Some text
 
 -- A plan of the line, of the texts that its files gave. The list of probes is `before` as it is
 -- handed in and `after` as it is left; so `count` and `counted` are the counter of machine steps.
@@ -47,27 +47,27 @@ IsPlanOf (Generate seed size out) before after count counted [] p = Generates se
 IsPlanOf (Cluster script cells images) before after count counted (text ∷ read) p =
     IsClusterPlan (images_at read) text cells p
 IsPlanOf (RunImage image sizes state save) before after count counted (bytes ∷ given) p =
-    IsRunPlan (image_at bytes) sizes (state_of given) save count counted p
+    IsRunPlan (image_at bytes) sizes (given_state given) save count counted p
 IsPlanOf (Debug image room script) before after count counted (bytes ∷ text ∷ []) p =
     IsDebugPlan (image_at bytes) room text count counted p
 IsPlanOf (Trace file room script input) before after count counted (text ∷ commands ∷ given) p
-    = IsTracePlan text commands (input_of given) room p
+    = IsTracePlan text commands (input_text given) room p
 IsPlanOf (Go file sizes input) before after count counted (text ∷ given) p =
-    IsGoPlan count counted text (input_of given) sizes p
+    IsGoPlan count counted text (input_text given) sizes p
 IsPlanOf (Turn file sizes input) before after count counted (text ∷ given) p =
-    IsTurnPlan before after count counted text (input_of given) sizes p
+    IsTurnPlan before after count counted text (input_text given) sizes p
 IsPlanOf (Profile file sizes) before after count counted (text ∷ []) p =
     IsProfilePlan before after count counted text [] sizes p
 IsPlanOf (Wrap file sizes names input) before after count counted (text ∷ given) p =
-    IsWrapPlan count counted text names (input_of given) sizes p
+    IsWrapPlan count counted text names (input_text given) sizes p
 IsPlanOf (Explain file sizes input) before after count counted (text ∷ given) p =
-    IsExplainPlan text (input_of given) sizes p
+    IsExplainPlan text (input_text given) sizes p
 IsPlanOf _ before after count counted texts p = ⊥
 
 -- what is left of the probes if memory runs out before there is a plan of these texts
 unfoldable pub LeavesOf : Asked → (before after : List Watch) → (texts : List (List ℕ)) → Type 0
 LeavesOf (Turn file sizes input) before after (text ∷ given) =
-    IsTurnShort before after text (input_of given) sizes
+    IsTurnShort before after text (input_text given) sizes
 LeavesOf (Profile file sizes) before after (text ∷ []) =
     IsProfileShort before after text [] sizes
 LeavesOf _ before after texts = after ≡ before

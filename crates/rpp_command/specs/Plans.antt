@@ -7,7 +7,7 @@ use Rattle.command_line.specs.command_plan.Plans.{Planned}
 use Rattle.image_commands.specs.ImagePlans.{AssemblesFile, ListsFile, FlipsFile, RunsFile}
 use Rattle.image_commands.specs.DebugPlans.{DebugsFile}
 use Rattle.program_commands.specs.ProgramPlans.{ChecksFile, CompilesFile}
-use Rattle.program_commands.specs.RunPlans.{GoesOn, TurnsFile, ProfilesFile}
+use Rattle.program_commands.specs.RunPlans.{RunGoesOn, TurnsFile, ProfilesFile}
 use Rattle.program_commands.specs.ToldShort.{TurnsFileShort, ProfilesFileShort}
 use Rattle.explain_commands.specs.Explained.{Explains}
 use Rattle.cluster_commands.specs.ClusterPlans.{ClustersFiles}
@@ -38,7 +38,7 @@ IsPlan (Debug image room script) before after count counted =
 IsPlan (Trace file room script input) before after count counted =
     Traces file script input room
 IsPlan (Go file sizes input) before after count counted =
-    GoesOn count counted file input sizes
+    RunGoesOn count counted file input sizes
 IsPlan (Turn file sizes input) before after count counted =
     TurnsFile before after count counted file input sizes
 IsPlan (Profile file sizes) before after count counted =

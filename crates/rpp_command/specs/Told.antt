@@ -12,7 +12,7 @@ use Rattle.rpp_command.specs.Plans.{IsPlan, LeavesProbes}
 use Rattle.command_line.specs.command_plan.Files.{Needed, FirstUnread}
 use Rattle.rpp_command.specs.Causes.{files_of}
 use Rattle.rpp_command.specs.Answers.{words_refused}
-use Rattle.plan_serving.specs.Left.{Leaves, Says, BreaksOff}
+use Rattle.plan_serving.specs.Left.{Leaves, Says, AbortsServing}
 use Rattle.command_line.specs.command_plan.command_ends.declared.status.Broken.{Broken}
 use Rattle.command_line.specs.command_plan.command_ends.declared.status.Broken.TheVariants.{Outside, NoMemory}
 
@@ -37,7 +37,7 @@ AnswersTold (Some line) probes kept told after status old new =
 
 -- there was no plan: the line on the first file that could not be read is printed, whole unless the
 -- sink failed
-pub record StopsAt (files : List Needed) (told : Option Texts) (rose failed : Type 0)
+pub record StopsCallAt (files : List Needed) (told : Option Texts) (rose failed : Type 0)
     (old new : Option (List ℕ)) : Type 0 where
   pub line : List ℕ
   pub first : FirstUnread told files rose line
@@ -50,7 +50,7 @@ abbrev pub HasNoPlan : Asked → (probes kept : List Watch) → (told : Option T
 HasNoPlan line probes kept told rose failed old new NoMemory =
     Keeps old new × LeavesProbes line probes kept told
 HasNoPlan line probes kept told rose failed old new Outside =
-    StopsAt (files_of line) told rose failed old new × (kept ≡ probes)
+    StopsCallAt (files_of line) told rose failed old new × (kept ≡ probes)
 
 -- such a plan was aborted
 pub record CutsOff (line : Asked) (probes kept : List Watch) (told after : Option Texts)
@@ -58,7 +58,7 @@ pub record CutsOff (line : Asked) (probes kept : List Watch) (told after : Optio
   pub plan : Planned
   pub made : ℕ
   pub is_plan : IsPlan line probes kept 0 made told plan
-  pub broken_off : BreaksOff told after rose failed lacks old new plan broken
+  pub broken_off : AbortsServing told after rose failed lacks old new plan broken
 
 -- What is left if words are no line, and `words refused` was not printed whole: no memory was found
 -- to read them, or that line was aborted.

@@ -1,7 +1,7 @@
 // The files of a line.
 ghost use Rattle.std.specs.Prelude.{◌≡◌, [], ◌∷◌, map, option_map, string_bytes, IfOk};
 ghost use Rattle.command_line.specs.Lines.{asked};
-ghost use Rattle.command_line.specs.command_plan.Files.{Needed, source, image_file, input_files, state_files, state_of_names};
+ghost use Rattle.command_line.specs.command_plan.Files.{Needed, source_file, image_file, input_files, state_files, state_of_names};
 ghost use Rattle.plan_serving.specs.Wanted.{file_of};
 ghost use Rattle.cluster_commands.specs.ClusterPlans.{cluster_files};
 ghost use Rattle.rpp_command.specs.Causes.{files_of};
@@ -96,7 +96,7 @@ pub fn wanted_files(alloc: Global, line: &Line) -> Result<Vec<Wanted>, AllocErro
 }
 
 fn source_alone(alloc: Global, file: &String) -> Result<Vec<Wanted>, AllocError>
-    ensures { IfOk result (λ files. map file_of files.items ≡ source (string_bytes file.now) ∷ []) }
+    ensures { IfOk result (λ files. map file_of files.items ≡ source_file (string_bytes file.now) ∷ []) }
 {
     alone(alloc, file, MOST_BYTES as u64)
 }
@@ -107,7 +107,7 @@ fn source_and_input(
     input: &Option<String>,
 ) -> Result<Vec<Wanted>, AllocError>
     ensures { IfOk result (λ files. map file_of files.items
-        ≡ source (string_bytes file.now) ∷ input_files (option_map string_bytes input.now)) }
+        ≡ source_file (string_bytes file.now) ∷ input_files (option_map string_bytes input.now)) }
 {
     before(file, MOST_BYTES as u64, input_alone(alloc, input)?)
 }
@@ -119,7 +119,7 @@ fn source_and_script(
     input: &Option<String>,
 ) -> Result<Vec<Wanted>, AllocError>
     ensures { IfOk result (λ files. map file_of files.items
-        ≡ source (string_bytes file.now)
+        ≡ source_file (string_bytes file.now)
         ∷ record { name = string_bytes script.now; limit = MOST_SCRIPT }
         ∷ input_files (option_map string_bytes input.now)) }
 {

@@ -8,7 +8,7 @@ ghost use Rattle.command_line.specs.command_plan.declared.plan.NoPlan.TheVariant
 ghost use Rattle.rpp_command.specs.Plans.{IsPlan, LeavesProbes};
 ghost use Rattle.command_line.specs.command_plan.Files.{OnlyReads, Unreadable, UnreadCause, LacksOne};
 ghost use Rattle.plan_serving.specs.Left.{KeepsButTarget};
-ghost use Rattle.rpp_command.specs.Causes.{files_of, needed, target, target_of, tell, tells};
+ghost use Rattle.rpp_command.specs.Causes.{files_of, needed, target, target_of, tell, is_observing};
 ghost use Rattle.rpp_command.specs.Answers.{Answers};
 ghost use Rattle.rpp_command.specs.Serving.{PlansRead, StopsPlan};
 ghost use Rattle.rpp_command.specs.Places.{placed};
@@ -159,7 +159,7 @@ fn serve<S: Shelf, K: Sink, P: Probes, L: Ledger>(
         (target_of (asked line.now)) }
     ensures later { S.faults shelf.old ≤ S.faults shelf.new }
     ensures later_sink { K.faults out.old ≤ K.faults out.new }
-    ensures probes { tells (asked line.now) ≡ false → probes.new ≡ probes.old }
+    ensures probes { is_observing (asked line.now) ≡ false → probes.new ≡ probes.old }
 {
     let mut steps = Steps::<L>::new(blank);
     let plan = match plan_files(alloc, line, shelf, probes, &mut steps) {
@@ -203,7 +203,7 @@ fn plan_files<S: Shelf, P: Probes, L: Ledger>(
     ensures untold { IfErr result (UnreadCause (P.watches probes.new ≡ P.watches probes.old)) }
     ensures short { IfErr result (λ _. LeavesProbes (asked line.now) (P.watches probes.old)
         (P.watches probes.new) (S.texts shelf.old)) }
-    ensures probes { tells (asked line.now) ≡ false → probes.new ≡ probes.old }
+    ensures probes { is_observing (asked line.now) ≡ false → probes.new ≡ probes.old }
 {
     let files = match wanted_files(alloc, line) {
         Ok(files) => files,
@@ -232,7 +232,7 @@ fn plan_held<P: Probes, L: Ledger>(
     ensures memory { IfErr result (λ stop. stop ≡ NoMemory) }
     ensures short { IfErr result (λ _. LeavesProbes (placed (asked line.now))
         (P.watches probes.old) (P.watches probes.new) (Some (held_texts held.old))) }
-    ensures probes { tells (asked line.now) ≡ false → probes.new ≡ probes.old }
+    ensures probes { is_observing (asked line.now) ≡ false → probes.new ≡ probes.old }
 {
     match plan_line(alloc, line, held, probes, counter) {
         Ok(plan) => Ok(plan),
@@ -242,7 +242,7 @@ fn plan_held<P: Probes, L: Ledger>(
 }
 
 // The plan of a line whose files have the names of their places.
-#[tactic(auto, unfolding(crate::specs::Plans::IsPlan, crate::specs::Plans::LeavesProbes, crate::specs::Causes::files_of, crate::specs::Causes::tells, crate::specs::Places::placed))]
+#[tactic(auto, unfolding(crate::specs::Plans::IsPlan, crate::specs::Plans::LeavesProbes, crate::specs::Causes::files_of, crate::specs::Causes::is_observing, crate::specs::Places::placed))]
 fn plan_line<S: Shelf, P: Probes, L: Ledger>(
     alloc: Global,
     line: &Line,
@@ -258,7 +258,7 @@ fn plan_line<S: Shelf, P: Probes, L: Ledger>(
         (S.faults shelf.new) (files_of (placed (asked line.now))) result }
     ensures short { IfErr result (λ _. LeavesProbes (placed (asked line.now)) (P.watches probes.old)
         (P.watches probes.new) (S.texts shelf.old)) }
-    ensures probes { tells (asked line.now) ≡ false → probes.new ≡ probes.old }
+    ensures probes { is_observing (asked line.now) ≡ false → probes.new ≡ probes.old }
 {
     match line {
         Line::Check { file: _ } => check(alloc, shelf, ""),

@@ -4,7 +4,7 @@
 #![tactic(auto)]
 
 ghost use Rattle.std.specs.Prelude.{◌≡◌, ◌+◌, ◌++◌, string_bytes, IfOk, OnOk};
-ghost use Rattle.rpp_generator.specs.Generated.{generated, opening, closing, items, item_lines, item_value, local_begin, put_in, taken_out, local_end};
+ghost use Rattle.rpp_generator.specs.Generated.{generated, opening_text, closing_text, items, item_lines, item_value, local_begin, put_in, taken_out, local_end};
 
 use rpp_words::NoMemory;
 use std::alloc::{AllocError, Global};
@@ -51,17 +51,17 @@ pub fn generate(alloc: Global, seed: u64, size: u32) -> Result<String, NoMemory>
 }
 
 // The lines before the items.
-#[tactic(auto, unfolding(crate::specs::Generated::opening))]
+#[tactic(auto, unfolding(crate::specs::Generated::opening_text))]
 fn add_opening(out: &mut String) -> Result<(), AllocError>
-    ensures { OnOk result (string_bytes out.new ≡ string_bytes out.old ++ opening) }
+    ensures { OnOk result (string_bytes out.new ≡ string_bytes out.old ++ opening_text) }
 {
     out.push_str(OPENING)
 }
 
 // The lines after the items.
-#[tactic(auto, unfolding(crate::specs::Generated::closing))]
+#[tactic(auto, unfolding(crate::specs::Generated::closing_text))]
 fn add_closing(out: &mut String) -> Result<(), AllocError>
-    ensures { OnOk result (string_bytes out.new ≡ string_bytes out.old ++ closing) }
+    ensures { OnOk result (string_bytes out.new ≡ string_bytes out.old ++ closing_text) }
 {
     out.push_str(CLOSING)
 }

@@ -2,7 +2,7 @@
 ghost use Rattle.std.specs.Prelude.{◌≡◌, ◌≤◌, ◌↔◌, ◌∷◌, [], Some, length, IfOk, IfErr, OnOk, IsErrOf, IsTrue, option_copied};
 ghost use Rattle.rpp_ports.specs.Events.{Read, Write, bytes_of};
 ghost use Rattle.rpp_ports.specs.Ports.{Rose, ReadCause, WriteCause, SetsText, LeavesAfter};
-ghost use Rattle.rpp_ports.specs.Memory.{text_of};
+ghost use Rattle.rpp_ports.specs.Memory.{file_text};
 ghost use Rattle.rpp_ports.specs.Failures.{CountsCall, IsCalm, is_due};
 ghost use Rattle.rpp_ports.specs.Shelves.{shelf_texts, shelf_failing, shelf_faults, shelf_events};
 
@@ -32,7 +32,7 @@ impl MemoryShelf {
     /// numbers, reads and writes counted together from 1, return `Failed`; with no number none
     /// ever does.
     pub fn new(alloc: Global, texts: Vec<Named>, failing: Vec<u64>) -> Self
-        ensures texts { shelf_texts result ≡ text_of texts.items }
+        ensures texts { shelf_texts result ≡ file_text texts.items }
         ensures failing { (shelf_failing result).numbers.items ≡ failing.items }
         ensures calls { (shelf_failing result).calls ≡ 0 }
         ensures faults { shelf_faults result ≡ 0 }

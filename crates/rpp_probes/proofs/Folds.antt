@@ -2,7 +2,7 @@
 use Rattle.std.proofs.Common.{◌≡◌, ◌∙◌, sym, ap, refl, Bool, true, false, List, [], ◌∷◌, ◌++◌, append_assoc}
 use Rattle.std.proofs.lemmas.List.{append-nil}
 use Rattle.rpp_probes.specs.declared.probe.StepAt.{StepAt}
-use Rattle.rpp_probes.specs.Tally.{Watch, told, told_all, has_ended, ends_in, going, lines_at, left_after, lines_after}
+use Rattle.rpp_probes.specs.Tally.{Watch, step_observed, told_all, has_ended, is_ended_in, going, lines_at, left_after, lines_after}
 
 pub left_none : (ws : List Watch) → left_after [] ws ≡ ws
 left_none [] = refl
@@ -10,17 +10,17 @@ left_none (w ∷ ws) = ap (λ l. w ∷ l) (left_none ws)
 
 -- a step before others
 going_first : (step : StepAt) (steps : List StepAt) (w : Watch) (ws : List Watch) (ended later : Bool)
-    → has_ended (told step w) ≡ ended → ends_in steps (told step w) ≡ later
+    → has_ended (step_observed step w) ≡ ended → is_ended_in steps (step_observed step w) ≡ later
     → left_after steps (going step ws) ≡ left_after (step ∷ steps) ws
     → left_after steps (going step (w ∷ ws)) ≡ left_after (step ∷ steps) (w ∷ ws)
 going_first step steps w ws true later e f rest = rw e rest
 going_first step steps w ws false true e f rest = rw (e, f) rest
-going_first step steps w ws false false e f rest = rw (e, f) (rw e (ap (λ l. told_all steps (told step w) ∷ l) rest))
+going_first step steps w ws false false e f rest = rw (e, f) (rw e (ap (λ l. told_all steps (step_observed step w) ∷ l) rest))
 
 pub going_left : (step : StepAt) (steps : List StepAt) (ws : List Watch)
     → left_after steps (going step ws) ≡ left_after (step ∷ steps) ws
 going_left step steps [] = refl
-going_left step steps (w ∷ ws) = going_first step steps w ws (has_ended (told step w)) (ends_in steps (told step w))
+going_left step steps (w ∷ ws) = going_first step steps w ws (has_ended (step_observed step w)) (is_ended_in steps (step_observed step w))
     refl refl (going_left step steps ws)
 
 pub left_one : (step : StepAt) (ws : List Watch) → left_after (step ∷ []) ws ≡ going step ws

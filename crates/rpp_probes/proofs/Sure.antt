@@ -9,20 +9,20 @@ use Rattle.std.proofs.lemmas.Bool.{cases_lt}
 use Rattle.std.proofs.lemmas.Bool.Decides.{nat_tests}
 use Rattle.rpp_probes.specs.declared.probe.StepAt.{StepAt}
 use Rattle.std.proofs.lemmas.List.Elements.{All-head, All-tail, All-cons, All-nil, All-weaker}
-use Rattle.rpp_probes.specs.Tally.{Watch, told, told_all, has_ended, ends_in, going, lines_at, left_after, lines_after}
+use Rattle.rpp_probes.specs.Tally.{Watch, step_observed, told_all, has_ended, is_ended_in, going, lines_at, left_after, lines_after}
 use Rattle.rpp_probes.specs.Tally.{IsSureFor, AreSureFor, EndNone}
 use Rattle.rpp_probes.proofs.Told.{same_parts, tail_same, parted, set_parted, count_front, none_left}
 use Rattle.rpp_probes.specs.Rules.{coverage, risen, marked, marked_all}
 
 -- a probe that never ends
 pub never_ends : (steps : List StepAt) (w : Watch) → ((tally : List ℕ) → w.is_end tally ≡ false)
-    → ends_in steps w ≡ false
+    → is_ended_in steps w ≡ false
 never_ends [] w h = refl
-never_ends (step ∷ steps) w h = rw (h (w.rule w.tally step)) (never_ends steps (told step w) h)
+never_ends (step ∷ steps) w h = rw (h (w.rule w.tally step)) (never_ends steps (step_observed step w) h)
 
 -- a count that is below the limit, and one that is past it
 pub not_yet : (steps : List StepAt) (limit count : ℕ) (marks : List ℕ) → count + length steps < limit → limit < 2 ^ 64
-    → ends_in steps (coverage limit count marks) ≡ false
+    → is_ended_in steps (coverage limit count marks) ≡ false
 not_yet [] limit count marks h k = refl
 not_yet (step ∷ steps) limit count marks h k =
     let few : count + 1 ≤ 2 ^ 64 - 1 = omega (h, k, arith) in
@@ -32,7 +32,7 @@ not_yet (step ∷ steps) limit count marks h k =
     rw apart (not_yet steps limit (risen count) _ rest k)
 
 pub no_more : (steps : List StepAt) (limit count : ℕ) (marks : List ℕ) → limit ≤ count → limit + 1 < 2 ^ 64
-    → count < 2 ^ 64 → ends_in steps (coverage limit count marks) ≡ false
+    → count < 2 ^ 64 → is_ended_in steps (coverage limit count marks) ≡ false
 no_more [] limit count marks h k l = refl
 no_more (step ∷ steps) limit count marks h k l =
     let up : risen count ≡ min (count + 1) (2 ^ 64 - 1) = refl in
@@ -55,50 +55,50 @@ nor_other false b h = h
 -- so many steps, of which the probes are sure
 pub none_of_sure : (n : ℕ) (steps : List StepAt) (ws : List Watch) → AreSureFor n ws → length steps ≤ n
     → EndNone steps ws
-none_of_sure n steps ws are few = All-weaker (IsSureFor n) (λ w. ends_in steps w ≡ false) (λ w sure. sure steps few) ws
+none_of_sure n steps ws are few = All-weaker (IsSureFor n) (λ w. is_ended_in steps w ≡ false) (λ w sure. sure steps few) ws
     are
 
 -- what a step leaves of probes if it ends none of them, and neither do those after it
 pub none_next : (step : StepAt) (steps : List StepAt) (ws : List Watch) → EndNone (step ∷ steps) ws
-    → EndNone steps (map (told step) ws)
-none_next step steps [] none = All-nil (λ w. ends_in steps w ≡ false)
+    → EndNone steps (map (step_observed step) ws)
+none_next step steps [] none = All-nil (λ w. is_ended_in steps w ≡ false)
 none_next step steps (w ∷ ws) none =
-    All-cons (λ w. ends_in steps w ≡ false) (told step w) (map (told step) ws)
-    (nor_other (has_ended (told step w)) (ends_in steps (told step w))
-    (All-head (λ w. ends_in (step ∷ steps) w ≡ false) w ws none))
-    (none_next step steps ws (All-tail (λ w. ends_in (step ∷ steps) w ≡ false) w ws none))
+    All-cons (λ w. is_ended_in steps w ≡ false) (step_observed step w) (map (step_observed step) ws)
+    (nor_other (has_ended (step_observed step w)) (is_ended_in steps (step_observed step w))
+    (All-head (λ w. is_ended_in (step ∷ steps) w ≡ false) w ws none))
+    (none_next step steps ws (All-tail (λ w. is_ended_in (step ∷ steps) w ≡ false) w ws none))
 
 -- probes that no step ends all stay, and none gives a line
 pub all_stay : (steps : List StepAt) (ws : List Watch) → EndNone steps ws
     → left_after steps ws ≡ map (told_all steps) ws
 all_stay steps [] none = refl
 all_stay steps (w ∷ ws) none =
-    rw (All-head (λ w. ends_in steps w ≡ false) w ws none)
-    (ap (λ l. told_all steps w ∷ l) (all_stay steps ws (All-tail (λ w. ends_in steps w ≡ false) w ws none)))
+    rw (All-head (λ w. is_ended_in steps w ≡ false) w ws none)
+    (ap (λ l. told_all steps w ∷ l) (all_stay steps ws (All-tail (λ w. is_ended_in steps w ≡ false) w ws none)))
 
 stays : (step : StepAt) (steps : List StepAt) (w : Watch) (ws : List Watch) → EndNone (step ∷ steps) (w ∷ ws)
-    → has_ended (told step w) ≡ false
-stays step steps w ws none = not_either (has_ended (told step w)) (ends_in steps (told step w))
-    (All-head (λ w. ends_in (step ∷ steps) w ≡ false) w ws none)
+    → has_ended (step_observed step w) ≡ false
+stays step steps w ws none = not_either (has_ended (step_observed step w)) (is_ended_in steps (step_observed step w))
+    (All-head (λ w. is_ended_in (step ∷ steps) w ≡ false) w ws none)
 
 going_all : (step : StepAt) (steps : List StepAt) (ws : List Watch) → EndNone (step ∷ steps) ws
-    → going step ws ≡ map (told step) ws
+    → going step ws ≡ map (step_observed step) ws
 going_all step steps [] none = refl
 going_all step steps (w ∷ ws) none =
-    rw (stays step steps w ws none) (ap (λ l. told step w ∷ l)
-    (going_all step steps ws (All-tail (λ w. ends_in (step ∷ steps) w ≡ false) w ws none)))
+    rw (stays step steps w ws none) (ap (λ l. step_observed step w ∷ l)
+    (going_all step steps ws (All-tail (λ w. is_ended_in (step ∷ steps) w ≡ false) w ws none)))
 
 no_line : (step : StepAt) (steps : List StepAt) (ws : List Watch) → EndNone (step ∷ steps) ws → lines_at step ws ≡ []
 no_line step steps [] none = refl
 no_line step steps (w ∷ ws) none =
-    rw (stays step steps w ws none) (no_line step steps ws (All-tail (λ w. ends_in (step ∷ steps) w ≡ false) w ws none))
+    rw (stays step steps w ws none) (no_line step steps ws (All-tail (λ w. is_ended_in (step ∷ steps) w ≡ false) w ws none))
 
 pub no_lines : (steps : List StepAt) (ws : List Watch) → EndNone steps ws → lines_after steps ws ≡ []
 no_lines [] ws none = refl
 no_lines (step ∷ steps) ws none =
     ap (λ l. l ++ lines_after steps (going step ws)) (no_line step steps ws none)
     ∙ ap (lines_after steps) (going_all step steps ws none)
-    ∙ no_lines steps (map (told step) ws) (none_next step steps ws none)
+    ∙ no_lines steps (map (step_observed step) ws) (none_next step steps ws none)
 
 -- ---- each probe of a list observes it
 
@@ -137,12 +137,12 @@ next_one f steps xs at d ws h less =
     }
 
 pub ends_not_next : (steps : List StepAt) (front behind ws : List Watch) (one : Watch) → EndNone steps ws
-    → ws ≡ front ++ one ∷ behind → ends_in steps one ≡ false
+    → ws ≡ front ++ one ∷ behind → is_ended_in steps one ≡ false
 ends_not_next steps front behind ws one none parts = first front (subst (EndNone steps) parts none)
   where
-    first : (front : List Watch) → EndNone steps (front ++ one ∷ behind) → ends_in steps one ≡ false
-    first [] are = All-head (λ w. ends_in steps w ≡ false) one behind are
-    first (w ∷ ws) are = first ws (All-tail (λ w. ends_in steps w ≡ false) w (ws ++ one ∷ behind) are)
+    first : (front : List Watch) → EndNone steps (front ++ one ∷ behind) → is_ended_in steps one ≡ false
+    first [] are = All-head (λ w. is_ended_in steps w ≡ false) one behind are
+    first (w ∷ ws) are = first ws (All-tail (λ w. is_ended_in steps w ≡ false) w (ws ++ one ∷ behind) are)
 
 -- one more has observed it
 pub one_told : {A : Type 0} (f : A → Watch) (steps : List StepAt) (xs : List A) (at : ℕ) (d y : A) (ws : List Watch)
@@ -206,7 +206,7 @@ risen_more count rest h = elim (cases_lt (count + 1) (2 ^ 64)) [
 ]
 
 pub marks_told : (steps : List StepAt) (limit count : ℕ) (marks : List ℕ) → count < 2 ^ 64
-    → ends_in steps (coverage limit count marks) ≡ false
+    → is_ended_in steps (coverage limit count marks) ≡ false
     → told_all steps (coverage limit count marks) ≡ coverage limit (min (count + length steps) (2 ^ 64 - 1))
     (marked_all steps marks)
 marks_told [] limit count marks h none =
@@ -214,8 +214,8 @@ marks_told [] limit count marks h none =
     let few : count + 0 ≤ 2 ^ 64 - 1 = omega (h, arith) in
     ap (λ n. coverage limit n marks) (sym (min-eq_left few ∙ z))
 marks_told (step ∷ steps) limit count marks h none =
-    let w = told step (coverage limit count marks) in
+    let w = step_observed step (coverage limit count marks) in
     let up : risen count < 2 ^ 64 = grind (arith) in
-    rw (not_either (has_ended w) (ends_in steps w) none)
-    (marks_told steps limit (risen count) (marked step.place marks) up (nor_other (has_ended w) (ends_in steps w) none)
+    rw (not_either (has_ended w) (is_ended_in steps w) none)
+    (marks_told steps limit (risen count) (marked step.place marks) up (nor_other (has_ended w) (is_ended_in steps w) none)
     ∙ ap (λ n. coverage limit n (marked_all steps (marked step.place marks))) (risen_more count (length steps) h))

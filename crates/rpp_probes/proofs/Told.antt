@@ -6,7 +6,7 @@ use Rattle.std.specs.List.{filter, remove, slice_set, slice_index_or}
 use Rattle.std.proofs.lemmas.List.{map-append, append-nil, length-map}
 use Rattle.std.proofs.lemmas.List.Elements.{filter-append}
 use Rattle.rpp_probes.specs.declared.probe.StepAt.{StepAt}
-use Rattle.rpp_probes.specs.Tally.{Watch, told, has_ended, line_of, going, lines_at, IsCutShort, TellsAt, DropsAt}
+use Rattle.rpp_probes.specs.Tally.{Watch, step_observed, has_ended, watch_line, going, lines_at, IsCutShort, TellsAt, DropsAt}
 
 -- ---- parts of a list
 
@@ -53,7 +53,7 @@ count_front f (x ∷ xs) (suc i) h = ap (λ n. suc n) (count_front f xs i (omega
 
 pub tells_at : {A : Type 0} (f : A → Watch) (step : StepAt) (xs now : List A) (i : ℕ) (x y : A) (goes : Bool)
     → i < length xs → x ≡ slice_index_or xs i x
-    → now ≡ slice_set xs i y → f y ≡ told step (f x) → goes ≡ not (has_ended (f y))
+    → now ≡ slice_set xs i y → f y ≡ step_observed step (f x) → goes ≡ not (has_ended (f y))
     → TellsAt step i (map f xs) (map f now) goes
 tells_at f step xs now i x y goes h at is one goes_on = record {
   front = map f (take i xs);
@@ -69,7 +69,7 @@ tells_at f step xs now i x y goes h at is one goes_on = record {
 
 pub drops_at : {A : Type 0} (f : A → Watch) (xs now : List A) (i : ℕ) (x : A) (before after : List (List ℕ))
     → i < length xs → x ≡ slice_index_or xs i x
-    → now ≡ remove xs i → after ≡ before ++ line_of (f x) ∷ [] → DropsAt i (map f xs) (map f now) before after
+    → now ≡ remove xs i → after ≡ before ++ watch_line (f x) ∷ [] → DropsAt i (map f xs) (map f now) before after
 drops_at f xs now i x before after h at is line = record {
   front = map f (take i xs);
   one = f x;
@@ -93,18 +93,18 @@ pub record IsToldTo (step : StepAt) (at : ℕ) (ws now : List Watch) (before aft
 
 going_more : (step : StepAt) (front : List Watch) (one : Watch)
     → going step (front ++ one ∷ []) ≡ going step front ++
-    (if not (has_ended (told step one)) then told step one ∷ [] else [])
-going_more step front one = ap (filter (λ w. not (has_ended w))) (map-append (told step) front (one ∷ []))
-    ∙ filter-append (λ w. not (has_ended w)) (map (told step) front) (told step one ∷ [])
+    (if not (has_ended (step_observed step one)) then step_observed step one ∷ [] else [])
+going_more step front one = ap (filter (λ w. not (has_ended w))) (map-append (step_observed step) front (one ∷ []))
+    ∙ filter-append (λ w. not (has_ended w)) (map (step_observed step) front) (step_observed step one ∷ [])
 
 lines_more : (step : StepAt) (front : List Watch) (one : Watch)
     → lines_at step (front ++ one ∷ []) ≡ lines_at step front
-    ++ map line_of (if has_ended (told step one) then told step one ∷ [] else [])
+    ++ map watch_line (if has_ended (step_observed step one) then step_observed step one ∷ [] else [])
 lines_more step front one =
-    ap (λ ws. map line_of (filter has_ended ws)) (map-append (told step) front (one ∷ []))
-    ∙ ap (map line_of) (filter-append has_ended (map (told step) front) (told step one ∷ []))
-    ∙ map-append line_of (filter has_ended (map (told step) front))
-    (if has_ended (told step one) then told step one ∷ [] else [])
+    ap (λ ws. map watch_line (filter has_ended ws)) (map-append (step_observed step) front (one ∷ []))
+    ∙ ap (map watch_line) (filter-append has_ended (map (step_observed step) front) (step_observed step one ∷ []))
+    ∙ map-append watch_line (filter has_ended (map (step_observed step) front))
+    (if has_ended (step_observed step one) then step_observed step one ∷ [] else [])
 
 -- the next one goes on
 pub one_goes : (step : StepAt) (at : ℕ) (ws now next : List Watch) (before after : List (List ℕ)) (goes : Bool)
@@ -113,23 +113,23 @@ pub one_goes : (step : StepAt) (at : ℕ) (ws now next : List Watch) (before aft
 one_goes step at ws now next before after goes h t on =
     let same = same_parts (going step h.front) t.front h.behind (t.one ∷ t.behind) (h.count ∙ sym t.count)
     (sym h.stands ∙ t.parts) in
-    let not_ended : not (has_ended (told step t.one)) ≡ true = sym t.goes_on ∙ on in
-    let ended : has_ended (told step t.one) ≡ false = not_true (has_ended (told step t.one)) not_ended in
-    let more : going step (h.front ++ t.one ∷ []) ≡ going step h.front ++ told step t.one ∷ [] =
-    going_more step h.front t.one ∙ ap (λ (b : Bool). going step h.front ++ (if b then told step t.one ∷ [] else []))
+    let not_ended : not (has_ended (step_observed step t.one)) ≡ true = sym t.goes_on ∙ on in
+    let ended : has_ended (step_observed step t.one) ≡ false = not_true (has_ended (step_observed step t.one)) not_ended in
+    let more : going step (h.front ++ t.one ∷ []) ≡ going step h.front ++ step_observed step t.one ∷ [] =
+    going_more step h.front t.one ∙ ap (λ (b : Bool). going step h.front ++ (if b then step_observed step t.one ∷ [] else []))
     not_ended in
     record {
       front = h.front ++ t.one ∷ [];
       behind = t.behind;
       parts = h.parts ∙ ap (λ l. h.front ++ l) same.behinds ∙ sym (append_assoc h.front (t.one ∷ []) t.behind);
-      stands = t.left ∙ ap (λ l. l ++ told step t.one ∷ t.behind) (sym same.fronts)
-          ∙ sym (append_assoc (going step h.front) (told step t.one ∷ []) t.behind)
+      stands = t.left ∙ ap (λ l. l ++ step_observed step t.one ∷ t.behind) (sym same.fronts)
+          ∙ sym (append_assoc (going step h.front) (step_observed step t.one ∷ []) t.behind)
           ∙ ap (λ l. l ++ t.behind) (sym more);
-      count = ap (λ (l : List Watch). length l) more ∙ length-append (going step h.front) (told step t.one ∷ [])
+      count = ap (λ (l : List Watch). length l) more ∙ length-append (going step h.front) (step_observed step t.one ∷ [])
           ∙ ap (λ n. n + 1) h.count;
       lines = h.lines ∙ ap (λ l. before ++ l)
           (sym (lines_more step h.front t.one ∙ ap (λ (b : Bool). lines_at step h.front
-          ++ map line_of (if b then told step t.one ∷ [] else [])) ended
+          ++ map watch_line (if b then step_observed step t.one ∷ [] else [])) ended
           ∙ append-nil (lines_at step h.front)));
     }
   where
@@ -145,14 +145,14 @@ pub one_ends : (step : StepAt) (at : ℕ) (ws now next last : List Watch) (befor
 one_ends step at ws now next last before after later goes h t off d =
     let same = same_parts (going step h.front) t.front h.behind (t.one ∷ t.behind) (h.count ∙ sym t.count)
     (sym h.stands ∙ t.parts) in
-    let dropped = same_parts t.front d.front (told step t.one ∷ t.behind) (d.one ∷ d.behind) (t.count ∙ sym d.count)
+    let dropped = same_parts t.front d.front (step_observed step t.one ∷ t.behind) (d.one ∷ d.behind) (t.count ∙ sym d.count)
     (sym t.left ∙ d.parts) in
-    let one : told step t.one ≡ d.one = head_same (told step t.one) d.one t.behind d.behind dropped.behinds in
-    let behind : t.behind ≡ d.behind = tail_same (told step t.one) d.one t.behind d.behind dropped.behinds in
-    let not_ended : not (has_ended (told step t.one)) ≡ false = sym t.goes_on ∙ off in
-    let ended : has_ended (told step t.one) ≡ true = not_false (has_ended (told step t.one)) not_ended in
+    let one : step_observed step t.one ≡ d.one = head_same (step_observed step t.one) d.one t.behind d.behind dropped.behinds in
+    let behind : t.behind ≡ d.behind = tail_same (step_observed step t.one) d.one t.behind d.behind dropped.behinds in
+    let not_ended : not (has_ended (step_observed step t.one)) ≡ false = sym t.goes_on ∙ off in
+    let ended : has_ended (step_observed step t.one) ≡ true = not_false (has_ended (step_observed step t.one)) not_ended in
     let more : going step (h.front ++ t.one ∷ []) ≡ going step h.front =
-    going_more step h.front t.one ∙ ap (λ (b : Bool). going step h.front ++ (if b then told step t.one ∷ [] else []))
+    going_more step h.front t.one ∙ ap (λ (b : Bool). going step h.front ++ (if b then step_observed step t.one ∷ [] else []))
     not_ended ∙ append-nil (going step h.front) in
     record {
       front = h.front ++ t.one ∷ [];
@@ -161,11 +161,11 @@ one_ends step at ws now next last before after later goes h t off d =
       stands = d.left ∙ ap (λ l. l ++ d.behind) (sym (more ∙ same.fronts ∙ dropped.fronts))
           ∙ ap (λ l. going step (h.front ++ t.one ∷ []) ++ l) (sym behind);
       count = ap (λ (l : List Watch). length l) more ∙ h.count;
-      lines = d.line ∙ ap (λ l. l ++ line_of d.one ∷ []) h.lines
-          ∙ append_assoc before (lines_at step h.front) (line_of d.one ∷ [])
-          ∙ ap (λ w. before ++ (lines_at step h.front ++ line_of w ∷ [])) (sym one)
+      lines = d.line ∙ ap (λ l. l ++ watch_line d.one ∷ []) h.lines
+          ∙ append_assoc before (lines_at step h.front) (watch_line d.one ∷ [])
+          ∙ ap (λ w. before ++ (lines_at step h.front ++ watch_line w ∷ [])) (sym one)
           ∙ ap (λ l. before ++ l) (sym (lines_more step h.front t.one
-          ∙ ap (λ (b : Bool). lines_at step h.front ++ map line_of (if b then told step t.one ∷ [] else []))
+          ∙ ap (λ (b : Bool). lines_at step h.front ++ map watch_line (if b then step_observed step t.one ∷ [] else []))
           ended));
     }
   where
@@ -185,8 +185,8 @@ cut_short step at ws now next last before after later goes h t off kept kept_lin
       ended = t.one;
       behind = t.behind;
       parts = h.parts ∙ ap (λ l. h.front ++ l) same.behinds;
-      ends = not_false (has_ended (told step t.one)) (sym t.goes_on ∙ off);
-      left = kept ∙ t.left ∙ ap (λ l. l ++ told step t.one ∷ t.behind) (sym same.fronts);
+      ends = not_false (has_ended (step_observed step t.one)) (sym t.goes_on ∙ off);
+      left = kept ∙ t.left ∙ ap (λ l. l ++ step_observed step t.one ∷ t.behind) (sym same.fronts);
       lines = kept_lines ∙ h.lines;
     }
   where

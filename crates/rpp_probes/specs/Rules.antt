@@ -19,17 +19,17 @@ steps_rule (forward ∷ back ∷ rest) step =
     if step.back then forward ∷ risen back ∷ [] else risen forward ∷ back ∷ []
 steps_rule tally step = tally
 
-abbrev pub steps_line : List ℕ → List ℕ
-steps_line (forward ∷ back ∷ rest) =
+abbrev pub tally_line : List ℕ → List ℕ
+tally_line (forward ∷ back ∷ rest) =
     codes "forward " ++ (decimal forward ++ (codes " back " ++ decimal back))
-steps_line tally = []
+tally_line tally = []
 
 abbrev pub step_tally : (forward back : ℕ) → Watch
 step_tally forward back = record {
   tally = forward ∷ back ∷ [];
   rule = steps_rule;
   is_end = never;
-  shown = steps_line;
+  shown = tally_line;
 }
 
 -- the greatest code address with one more

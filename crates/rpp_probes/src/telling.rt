@@ -1,6 +1,6 @@
 // The steps that a list of probes observes.
 ghost use Rattle.std.specs.Prelude.{◌≡◌, ◌+◌, ◌<◌, ◌++◌, List, map, vec_len, IfOk, IfErr, OnOk, OnErr, string_bytes};
-ghost use Rattle.rpp_probes.specs.Tally.{Watch, EndNone, left_after, IsSureFor, AreSureFor, line_of as line_shown, going, lines_at, IsCutShort, TellsAt, DropsAt, lines_shown};
+ghost use Rattle.rpp_probes.specs.Tally.{Watch, EndNone, left_after, IsSureFor, AreSureFor, watch_line as line_shown, going, lines_at, IsCutShort, TellsAt, DropsAt, lines_shown};
 
 use crate::one_probe::{tell, tell_each};
 use crate::{Probe, StepAt};

@@ -4,7 +4,7 @@ use Rattle.rpp_tree.specs.declared.tree.Ident.{Ident}
 use Rattle.rpp_tree.specs.declared.tree.Var.{Var}
 use Rattle.rpp_tree.specs.Tree.{Expression, Statement, Statements, Update, If, From, Construct, Local, End, Then}
 use Rattle.rpp_tree.specs.Tree.{joined}
-use Rattle.rpp_tree.specs.Tree.{Part, Walk, walk, walk_block, own_parts, each_after, each_part}
+use Rattle.rpp_tree.specs.Tree.{TreePart, Walk, walk, walk_block, own_parts, each_after, each_part}
 use Rattle.rpp_tree.specs.Bare.{bare_name, bare_var, bare_expression, bare_part, bare_statement, bare}
 
 -- what a walk says of one block and then another, if it joins what it says of statements
@@ -24,7 +24,7 @@ walk_joined w join next none turned (Then first body) rest =
 -- what two walks say is related, if it is so of each form
 pub record AreRelated {ℓ κ μ} {A : Type ℓ} {B : Type κ} (R : A → B → Type μ) (v : Walk A) (w : Walk B)
     : Type (ℓ ⊔ κ ⊔ μ) where
-  pub plain : (at : ℕ) (parts : List Part) → R (v.plain at parts) (w.plain at parts)
+  pub plain : (at : ℕ) (parts : List TreePart) → R (v.plain at parts) (w.plain at parts)
   pub forked : (at : ℕ) (before : Expression) (a b : A) (c d : B) (after : Expression) → R a c → R b d
       → R (v.forked at before a b after) (w.forked at before c d after)
   pub construct : (at : ℕ) (class name : Ident) (a : A) (c : B) (end : Ident) → R a c
@@ -53,17 +53,17 @@ mutual
 
 -- and what is said of parts, if it is so of each part and of what is joined
 after_related {ℓ κ μ} : {A : Type ℓ} {B : Type κ} (R : A → B → Type μ) (one : A → A → A) (two : B → B → B)
-    (f : Part → A) (g : Part → B) → ((a b : A) (c d : B) → R a c → R b d → R (one a b) (two c d))
-    → ((p : Part) → R (f p) (g p)) → (a : A) (c : B) → R a c → (parts : List Part)
+    (f : TreePart → A) (g : TreePart → B) → ((a b : A) (c d : B) → R a c → R b d → R (one a b) (two c d))
+    → ((p : TreePart) → R (f p) (g p)) → (a : A) (c : B) → R a c → (parts : List TreePart)
     → R (each_after one f a parts) (each_after two g c parts)
 after_related R one two f g both each a c h [] = h
 after_related R one two f g both each a c h (p ∷ parts) =
     after_related R one two f g both each (one a (f p)) (two c (g p)) (both a (f p) c (g p) h (each p)) parts
 
 pub parts_related {ℓ κ μ} : {A : Type ℓ} {B : Type κ} (R : A → B → Type μ) (one : A → A → A) (two : B → B → B)
-    (f : Part → A) (g : Part → B) (none : A) (nothing : B)
-    → ((a b : A) (c d : B) → R a c → R b d → R (one a b) (two c d)) → ((p : Part) → R (f p) (g p)) → R none nothing
-    → (parts : List Part) → R (each_part one f none parts) (each_part two g nothing parts)
+    (f : TreePart → A) (g : TreePart → B) (none : A) (nothing : B)
+    → ((a b : A) (c d : B) → R a c → R b d → R (one a b) (two c d)) → ((p : TreePart) → R (f p) (g p)) → R none nothing
+    → (parts : List TreePart) → R (each_part one f none parts) (each_part two g nothing parts)
 parts_related R one two f g none nothing both each h [] = h
 parts_related R one two f g none nothing both each h (p ∷ parts) =
     after_related R one two f g both each (f p) (g p) (each p) parts
@@ -73,7 +73,7 @@ parts_related R one two f g none nothing both each h (p ∷ parts) =
 -- what a walk says of a syntax tree without its places is related to what it says of the syntax
 -- tree
 pub record IsBlind {ℓ μ} {A : Type ℓ} (R : A → A → Type μ) (w : Walk A) : Type (ℓ ⊔ μ) where
-  pub plain : (at : ℕ) (parts : List Part) → R (w.plain 0 (map bare_part parts)) (w.plain at parts)
+  pub plain : (at : ℕ) (parts : List TreePart) → R (w.plain 0 (map bare_part parts)) (w.plain at parts)
   pub forked : (at : ℕ) (before : Expression) (a b c d : A) (after : Expression) → R a c → R b d
       → R (w.forked 0 (bare_expression before) a b (bare_expression after)) (w.forked at before c d after)
   pub construct : (at : ℕ) (class name : Ident) (a c : A) (end : Ident) → R a c
@@ -107,8 +107,8 @@ pub own_parts_bare : (s : Statement) → own_parts (bare_statement s) ≡ map ba
 own_parts_bare (Update at op target value) = refl
 own_parts_bare _ = refl
 
-bare_after {ℓ} : {A : Type ℓ} (join : A → A → A) (said : Part → A) → ((p : Part) → said (bare_part p) ≡ said p)
-    → (before : A) (parts : List Part) → each_after join said before (map bare_part parts)
+bare_after {ℓ} : {A : Type ℓ} (join : A → A → A) (said : TreePart → A) → ((p : TreePart) → said (bare_part p) ≡ said p)
+    → (before : A) (parts : List TreePart) → each_after join said before (map bare_part parts)
     ≡ each_after join said before parts
 bare_after join said same before [] = refl
 bare_after join said same before (p ∷ parts) =
@@ -116,8 +116,8 @@ bare_after join said same before (p ∷ parts) =
     ∙ bare_after join said same (join before (said p)) parts
 
 -- what is said of parts that is the same without their places
-pub each_bare {ℓ} : {A : Type ℓ} (join : A → A → A) (said : Part → A) (none : A)
-    → ((p : Part) → said (bare_part p) ≡ said p) → (parts : List Part)
+pub each_bare {ℓ} : {A : Type ℓ} (join : A → A → A) (said : TreePart → A) (none : A)
+    → ((p : TreePart) → said (bare_part p) ≡ said p) → (parts : List TreePart)
     → each_part join said none (map bare_part parts) ≡ each_part join said none parts
 each_bare join said none same [] = refl
 each_bare join said none same (p ∷ parts) =

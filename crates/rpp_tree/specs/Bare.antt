@@ -7,7 +7,7 @@ use Rattle.rpp_tree.specs.declared.tree.VarType.TheVariants as kind
 use Rattle.rpp_tree.specs.Tree.{Expression, Number, Null, Variable, Element, Binary, Lvalue, Whole}
 use Rattle.rpp_tree.specs.Tree.{Item, Creation, Object, Ints, Objects, Statement, Statements}
 use Rattle.rpp_tree.specs.Tree.{Update, Swap, If, From, Construct, Local, New, Delete, Copy, Uncopy}
-use Rattle.rpp_tree.specs.Tree.{Call, Skip, End, Then, Procedure, ClassText, Source, Part, Operand}
+use Rattle.rpp_tree.specs.Tree.{Call, Skip, End, Then, Procedure, ClassText, Source, TreePart, Operand}
 use Rattle.rpp_tree.specs.Tree.{Target, Typed, Creates, Invokes}
 
 abbrev pub bare_name : Ident → Ident
@@ -43,7 +43,7 @@ bare_creation (Object class) = Object (bare_name class)
 bare_creation (Ints length) = Ints (bare_expression length)
 bare_creation (Objects class length) = Objects (bare_name class) (bare_expression length)
 
-abbrev pub bare_part : Part → Part
+abbrev pub bare_part : TreePart → TreePart
 bare_part (Operand value) = Operand (bare_expression value)
 bare_part (Target place) = Target (bare_lvalue place)
 bare_part (Typed kind place) = Typed (bare_type kind) (bare_lvalue place)

@@ -5,7 +5,7 @@ use Rattle.rpp_tree.specs.declared.limits.TheConstants.{MOST_NUMBER, MOST_INDEX_
 use Rattle.rpp_tree.specs.declared.limits.TheConstants.{MOST_PARAMETERS, MOST_LOCALS, MOST_NESTING}
 use Rattle.rpp_tree.specs.Tree.{Expression, Number, Null, Variable, Element, Binary, Lvalue, Whole}
 use Rattle.rpp_tree.specs.Tree.{Item, Creation, Object, Ints, Objects, Statement, Statements}
-use Rattle.rpp_tree.specs.Tree.{Procedure, Source, Part, Operand, Target, Typed, Creates, Invokes}
+use Rattle.rpp_tree.specs.Tree.{Procedure, Source, TreePart, Operand, Target, Typed, Creates, Invokes}
 use Rattle.rpp_tree.specs.Tree.{Walk, walk, walk_block, own_parts, each_part, statement_nodes}
 use Rattle.rpp_tree.specs.Tree.{depth}
 use Rattle.rpp_tree.specs.Names.{IsName}
@@ -34,7 +34,7 @@ abbrev pub receiver_index_depth : Option Lvalue → ℕ
 receiver_index_depth None = 0
 receiver_index_depth (Some receiver) = lvalue_index_depth receiver
 
-abbrev pub part_index_depth : Part → ℕ
+abbrev pub part_index_depth : TreePart → ℕ
 part_index_depth (Operand value) = index_depth value
 part_index_depth (Target place) = lvalue_index_depth place
 part_index_depth (Typed kind place) = lvalue_index_depth place
@@ -51,7 +51,7 @@ receiver_locals None = 0
 receiver_locals (Some (Whole name)) = 0
 receiver_locals (Some (Item name index)) = 1
 
-abbrev pub part_locals : Part → ℕ
+abbrev pub part_locals : TreePart → ℕ
 part_locals (Invokes receiver method args) = receiver_locals receiver
 part_locals _ = 0
 

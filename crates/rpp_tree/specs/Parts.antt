@@ -7,7 +7,7 @@ use Rattle.rpp_tree.specs.declared.tree.VarType.{VarType}
 use Rattle.rpp_tree.specs.declared.tree.VarType.TheVariants as kind
 use Rattle.rpp_tree.specs.Tree.{Expression, Number, Null, Variable, Element, Binary, Lvalue, Whole}
 use Rattle.rpp_tree.specs.Tree.{Item, Creation, Object, Ints, Objects, Statement, Statements}
-use Rattle.rpp_tree.specs.Tree.{Procedure, ClassText, Source, Part, Operand, Target, Typed, Creates}
+use Rattle.rpp_tree.specs.Tree.{Procedure, ClassText, Source, TreePart, Operand, Target, Typed, Creates}
 use Rattle.rpp_tree.specs.Tree.{Invokes, Walk, walk, walk_block, each_part, each_after}
 
 -- ---- names
@@ -41,7 +41,7 @@ type_names (kind.ClassArray class) = class ∷ []
 abbrev pub var_names : Var → List Ident
 var_names var = type_names var.kind ++ var.name ∷ []
 
-abbrev pub part_names : Part → List Ident
+abbrev pub part_names : TreePart → List Ident
 part_names (Operand value) = expression_names value
 part_names (Target place) = lvalue_names place
 part_names (Typed kind place) = type_names kind ++ lvalue_names place
@@ -109,7 +109,7 @@ creation_places (Objects class length) = class.at ∷ expression_places length
 abbrev pub var_places : Var → List ℕ
 var_places var = name_places (var_names var)
 
-abbrev pub part_places : Part → List ℕ
+abbrev pub part_places : TreePart → List ℕ
 part_places (Operand value) = expression_places value
 part_places (Target place) = lvalue_places place
 part_places (Typed kind place) = name_places (type_names kind) ++ lvalue_places place
@@ -186,7 +186,7 @@ list_tokens size (first ∷ []) = size first
 list_tokens size (first ∷ second ∷ rest) = size first + 1 + list_tokens size (second ∷ rest)
 
 -- a call's parentheses are counted with what it calls
-abbrev pub part_tokens : Part → ℕ
+abbrev pub part_tokens : TreePart → ℕ
 part_tokens (Operand value) = expression_tokens value
 part_tokens (Target place) = lvalue_tokens place
 part_tokens (Typed kind place) = type_tokens kind + lvalue_tokens place

@@ -8,13 +8,13 @@ use Rattle.rpp_tree.specs.Views.{expression_of, block_of}
 use Rattle.source_steps.specs.inverse_rules.Inverse.{inverse}
 use Rattle.source_steps.proofs.inverse_rules_laws.Inverses.{inverse-joined}
 use Rattle.source_steps.specs.roopl_semantics.Execution.{in_direction, constructed}
-use Rattle.source_steps.specs.meaning_machine.Machine.{Config, Open, Part as Runs, First, Again}
+use Rattle.source_steps.specs.meaning_machine.Machine.{Config, Open, OpenPart as Runs, First, Again}
 use Rattle.source_steps.specs.meaning_machine.Turned.{each_undone, turned_open, turned_part, turn}
 use Rattle.source_blocks.specs.declared.frames.Frame.{Frame}
 use Rattle.source_blocks.specs.declared.frames.Loop.{Loop}
 use Rattle.source_blocks.specs.declared.frames.Part.TheVariants as runs
 use Rattle.source_blocks.specs.declared.run.Run.{Run}
-use Rattle.source_blocks.specs.Blocks.{statement_at, rest_at, past_at, count_of}
+use Rattle.source_blocks.specs.Blocks.{statement_at, rest_at, past_at, statement_count}
 use Rattle.source_blocks.specs.Tasks.{task_of}
 use Rattle.source_blocks.specs.Opens.{open_of, part_of, IsOpen}
 use Rattle.source_blocks.specs.Runs.{IsSound, config_of, state_in}
@@ -23,7 +23,7 @@ use Rattle.source_steps.proofs.roopl_semantics_laws.Changed.{direction_undone}
 
 -- ---- blocks that are undone
 
--- a tactic takes lemmas of its own crate alone
+-- a tactic takes only lemmas of its own crate
 pub body_undone : (back : Bool) (body : Statements)
     → in_direction (not back) body ≡ inverse (in_direction back body)
 body_undone back body = direction_undone back body
@@ -35,7 +35,7 @@ made_undone at class name body =
     ap (λ r. joined r (Then last End)) (inverse-joined true body (Then last End))
 
 -- what is past of a block undone is what was to come
-pub past_undone : (body : Statements) (at after : ℕ) → at + after ≡ count_of body
+pub past_undone : (body : Statements) (at after : ℕ) → at + after ≡ statement_count body
     → past_at after (inverse body) ≡ each_undone (rest_at at body)
 past_undone body at zero e = sym (ap each_undone (rest_end at body (omega arith)))
 past_undone body at (suc after) e =
@@ -43,7 +43,7 @@ past_undone body at (suc after) e =
     ∙ sym (ap each_undone (rest_here at body (omega arith)))
 
 -- and what is to come is what was past
-pub rest_undone : (body : Statements) (at after : ℕ) → at + after ≡ count_of body
+pub rest_undone : (body : Statements) (at after : ℕ) → at + after ≡ statement_count body
     → rest_at after (inverse body) ≡ each_undone (past_at at body)
 rest_undone body zero after e = let c = count_inverse body in rest_end after (inverse body) (omega arith)
 rest_undone body (suc at) after e =
@@ -53,7 +53,7 @@ rest_undone body (suc at) after e =
 
 -- ---- open statements
 
-pub open_undone : (old new : Frame) → old.at + suc new.at ≡ count_of (task_of old.task)
+pub open_undone : (old new : Frame) → old.at + suc new.at ≡ statement_count (task_of old.task)
     → task_of new.task ≡ inverse (task_of old.task) → part_of new.part ≡ turned_part (part_of old.part)
     → open_of new ≡ turned_open (open_of old)
 open_undone old new a t p =
@@ -72,11 +72,11 @@ open_undone old new a t p =
     (at_inverse body new.at old.at (omega arith))
     ∙ ap (λ b. record undone { rest = b }) (rest_undone body old.at (suc new.at) (omega arith))
 
-pub open_within : (old new : Frame) → old.at + suc new.at ≡ count_of (task_of old.task)
-    → task_of new.task ≡ inverse (task_of old.task) → new.at < count_of (task_of new.task)
+pub open_within : (old new : Frame) → old.at + suc new.at ≡ statement_count (task_of old.task)
+    → task_of new.task ≡ inverse (task_of old.task) → new.at < statement_count (task_of new.task)
 open_within old new a t =
     let c = count_inverse (task_of old.task) in
-    let d : count_of (task_of new.task) ≡ count_of (inverse (task_of old.task)) = ap count_of t in
+    let d : statement_count (task_of new.task) ≡ statement_count (inverse (task_of old.task)) = ap statement_count t in
     omega arith
 
 -- a loop undone
@@ -145,7 +145,7 @@ written_whole now old n as_many whole = sym (ap (λ l. take n (now ++ l)) (drop_
 -- ---- the run
 
 module _ (run new : Run) (task : task_of new.task ≡ inverse (task_of run.task))
-    (at : run.at + new.at ≡ count_of (task_of run.task))
+    (at : run.at + new.at ≡ statement_count (task_of run.task))
     (same : new ≡ record run { task = new.task; at = new.at; frames = new.frames }) where
   pub turned_is : map open_of new.frames.items ≡ map turned_open (map open_of run.frames.items)
       → config_of new ≡ turn (config_of run)
@@ -175,6 +175,6 @@ module _ (run new : Run) (task : task_of new.task ≡ inverse (task_of run.task)
     marked = s.marked;
     opens = opens;
     within = let c = count_inverse (task_of run.task) in
-        let d : count_of (task_of new.task) ≡ count_of (inverse (task_of run.task)) = ap count_of task in
+        let d : statement_count (task_of new.task) ≡ statement_count (inverse (task_of run.task)) = ap statement_count task in
         omega arith;
   })

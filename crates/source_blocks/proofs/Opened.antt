@@ -5,12 +5,12 @@ use Rattle.std.proofs.lemmas.List.{reverse-append, length-append, length-map, le
 use Rattle.std.specs.Prelude.{slice_get, slice_set}
 use Rattle.std.proofs.lemmas.List.Elements.{All-push, All-pop}
 use Rattle.rpp_tree.specs.Tree.{Statements, End}
-use Rattle.source_steps.specs.meaning_machine.Machine.{Config, Open, Part as Runs, past_it, inside}
+use Rattle.source_steps.specs.meaning_machine.Machine.{Config, Open, OpenPart as Runs, past_it, inside}
 use Rattle.source_blocks.specs.declared.task.Task.{Task}
 use Rattle.source_blocks.specs.declared.frames.Part.{Part}
 use Rattle.source_blocks.specs.declared.frames.Frame.{Frame}
 use Rattle.source_blocks.specs.declared.run.Run.{Run}
-use Rattle.source_blocks.specs.Blocks.{count_of}
+use Rattle.source_blocks.specs.Blocks.{statement_count}
 use Rattle.source_blocks.specs.Tasks.{task_of}
 use Rattle.source_blocks.specs.Opens.{open_of, part_of, IsOpen, HasPart}
 use Rattle.source_blocks.specs.Turns.{loop_part, gone_over, Changed}
@@ -54,7 +54,7 @@ module _ (run new : Run) where
       ∙ ap (λ n. config_of (record run { task = frame.task; at = n; frames = new.frames })) same
       ∙ sym (ap (leaving (config_of run)) outer)
 
-pub passed_sound : (run : Run) (next : ℕ) → next ≡ run.at + 1 → run.at < count_of (task_of run.task) → IsSound run
+pub passed_sound : (run : Run) (next : ℕ) → next ≡ run.at + 1 → run.at < statement_count (task_of run.task) → IsSound run
     → IsSound (record run { at = next })
 passed_sound run next e h s = record {
   each = s.each;

@@ -5,7 +5,7 @@ use Rattle.std.specs.Prelude.{Result, Ok, Err, OnOk, MatchResult}
 use Rattle.source_steps.specs.roopl_semantics.Store.{State}
 use Rattle.source_steps.specs.roopl_semantics.Execution.{opened, closed}
 use Rattle.rpp_tree.specs.Tree.{Statements}
-use Rattle.source_steps.specs.meaning_machine.Machine.{Config, Part, inside}
+use Rattle.source_steps.specs.meaning_machine.Machine.{Config, OpenPart, inside}
 use Rattle.source_steps.specs.source_store.declared.value.Value.{Value as Held}
 use Rattle.source_steps.specs.source_store.HeapView.{Kept}
 use Rattle.source_steps.specs.source_store.ValueView.{value_of, values_of}
@@ -13,7 +13,7 @@ use Rattle.source_steps.specs.declared.scope.Scope.{Scope as Chain}
 use Rattle.source_steps.specs.declared.stop.Stop.{Stop}
 use Rattle.source_steps.specs.declared.stop.Stop.TheVariants as stop
 use Rattle.source_steps.specs.source_store.declared.lack.Lack.TheVariants as lacking
-use Rattle.source_steps.specs.Metered.{Metered, Gives, OnFault}
+use Rattle.source_steps.specs.Metered.{Metered, MeteredGives, OnFault}
 use Rattle.source_steps.specs.Marks.{with_mark, AreMarked}
 use Rattle.source_steps.proofs.Marked.{marked_more}
 use Rattle.source_steps.specs.StateView.{IsFramed, names_of, bindings, state_of}
@@ -70,13 +70,13 @@ module _ (run : Run) (scope : Chain) (is : (names_of scope ≡ names_in run) × 
     moved_is f e = sym new_state ∙ e ∙ ap f state_is
 
     pub changed_gives : {E : Type 0} (result : Result E Stop) (left : ℕ) (m : State → Metered State)
-        → Gives (λ (u : E). state_of run.setting scope new.heap new.values.items) result left
+        → MeteredGives (λ (u : E). state_of run.setting scope new.heap new.values.items) result left
         (m (state_of run.setting scope run.heap run.values.items))
-        → Gives (λ (u : E). state_in new) result left (m (state_in run))
+        → MeteredGives (λ (u : E). state_in new) result left (m (state_in run))
     changed_gives {E = E} result left m g =
-        let there : (st : State) → Type 0 = λ st. Gives (λ (u : E). st) result left (m (state_in run)) in
+        let there : (st : State) → Type 0 = λ st. MeteredGives (λ (u : E). st) result left (m (state_in run)) in
         let here : (st : State) → Type 0 = λ st.
-        Gives (λ (u : E). state_of run.setting scope new.heap new.values.items) result left (m st) in
+        MeteredGives (λ (u : E). state_of run.setting scope new.heap new.values.items) result left (m st) in
         subst there new_state (subst here state_is g)
 
     pub still_sound : IsSound run → IsFramed run.setting scope new.heap new.values.items → IsSound new
@@ -164,7 +164,7 @@ module _ (run new : Run)
 
 -- a block that begins inside of the same statement
 pub inside_same : (run mid : Run)
-    → mid ≡ record run { locals = mid.locals; marks = mid.marks; values = mid.values } → (part : Part)
+    → mid ≡ record run { locals = mid.locals; marks = mid.marks; values = mid.values } → (part : OpenPart)
     (body : Statements) (st : State) → state_in mid ≡ st
     → inside (config_of mid) (here_in mid) (rest_in mid) part body (state_in mid)
     ≡ inside (config_of run) (here_in run) (rest_in run) part body st

@@ -20,6 +20,6 @@ past_at zero body = End
 past_at (suc at) body = Then (statement_at at body) (past_at at body)
 
 -- how many statements a block has
-abbrev pub count_of : Statements → ℕ
-count_of End = 0
-count_of (Then s rest) = suc (count_of rest)
+abbrev pub statement_count : Statements → ℕ
+statement_count End = 0
+statement_count (Then s rest) = suc (statement_count rest)

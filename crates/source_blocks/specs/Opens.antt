@@ -6,10 +6,10 @@ use Rattle.rpp_tree.specs.Views.{expression_of, block_of}
 use Rattle.source_steps.specs.roopl_semantics.Store.{Value}
 use Rattle.source_steps.specs.roopl_semantics.Value.{Cell}
 use Rattle.source_steps.specs.roopl_semantics.Execution.{in_direction}
-use Rattle.source_steps.specs.meaning_machine.Machine.{Part, Chosen, First, Again, Holding, Calling, Open}
+use Rattle.source_steps.specs.meaning_machine.Machine.{OpenPart, Chosen, First, Again, Holding, Calling, Open}
 use Rattle.source_steps.specs.meaning_machine.Machine.{Caller as From}
 use Rattle.source_steps.specs.source_store.ValueView.{value_of, values_of}
-use Rattle.source_steps.specs.CellView.{cell_of}
+use Rattle.source_steps.specs.CellView.{cell_view}
 use Rattle.source_steps.specs.Marks.{AreMarked}
 use Rattle.source_steps.specs.StateView.{bindings}
 use Rattle.source_blocks.specs.declared.frames.Closing.{Closing}
@@ -19,7 +19,7 @@ use Rattle.source_blocks.specs.declared.frames.Caller.{Caller}
 use Rattle.source_blocks.specs.declared.frames.Part.{Part as Runs}
 use Rattle.source_blocks.specs.declared.frames.Part.TheVariants as runs
 use Rattle.source_blocks.specs.declared.frames.Frame.{Frame}
-use Rattle.source_blocks.specs.Blocks.{statement_at, rest_at, past_at, count_of}
+use Rattle.source_blocks.specs.Blocks.{statement_at, rest_at, past_at, statement_count}
 use Rattle.source_blocks.specs.Tasks.{task_of}
 
 abbrev pub closing_of : Closing → Expression
@@ -29,7 +29,7 @@ closing_of (closing.Of e) = expression_of e.now
 -- the cell of a receiver, if there is one
 abbrev pub cells_in : Option Receiver → List Cell
 cells_in None = []
-cells_in (Some receiver) = cell_of receiver.cell ∷ []
+cells_in (Some receiver) = cell_view receiver.cell ∷ []
 
 -- what moved out of it
 abbrev pub values_in : Option Receiver → List Value
@@ -49,7 +49,7 @@ caller_of caller = record {
   params = length caller.params.now;
 }
 
-abbrev pub part_of : Runs → Part
+abbrev pub part_of : Runs → OpenPart
 part_of (runs.Chosen side test after) =
     Chosen side (expression_of test.now) (expression_of after.now)
 part_of (runs.First l) =
@@ -61,7 +61,7 @@ part_of (runs.Again l) =
 part_of (runs.Holding local) =
     Holding local.name.now (closing_of local.value) (closing_of local.end_value)
 part_of (runs.Calling caller) =
-    Calling (caller_of caller) (cells_in caller.receiver) (map cell_of caller.args.items)
+    Calling (caller_of caller) (cells_in caller.receiver) (map cell_view caller.args.items)
     (values_in caller.receiver)
 
 abbrev pub open_of : Frame → Open
@@ -81,11 +81,11 @@ IsCaller _ = Unit {0}
 
 -- so it is in each open statement, which is one of its block
 pub record IsOpen (frame : Frame) : Type 0 where
-  pub within : frame.at < count_of (task_of frame.task)
+  pub within : frame.at < statement_count (task_of frame.task)
   pub caller : IsCaller frame.part
 
 -- the innermost open statement runs in this part
-pub record HasPart (around : List Open) (part : Part) : Type 0 where
+pub record HasPart (around : List Open) (part : OpenPart) : Type 0 where
   pub inmost : Open
   pub others : List Open
   pub is : around ≡ inmost ∷ others

@@ -10,10 +10,10 @@ use Rattle.source_steps.specs.source_store.ValueView.{values_of}
 use Rattle.source_steps.specs.StateView.{bindings}
 use Rattle.source_steps.specs.roopl_semantics.Value.{Cell}
 use Rattle.source_steps.specs.declared.cell.Cell.{Cell as Place}
-use Rattle.source_steps.specs.CellView.{cell_of}
+use Rattle.source_steps.specs.CellView.{cell_view}
 use Rattle.source_steps.specs.Marks.{AreMarked}
 use Rattle.source_blocks.specs.declared.run.Run.{Run}
-use Rattle.source_blocks.specs.Blocks.{statement_at, rest_at, past_at, count_of}
+use Rattle.source_blocks.specs.Blocks.{statement_at, rest_at, past_at, statement_count}
 use Rattle.source_blocks.specs.Tasks.{task_of}
 use Rattle.source_blocks.specs.Opens.{open_of, IsOpen}
 
@@ -54,17 +54,17 @@ pub record IsSound (run : Run) : Type 0 where
   pub order : run.heap.order ≡ run.setting.limits.heap
   pub marked : AreMarked run.marks (names_in run)
   pub opens : All IsOpen run.frames.items
-  pub within : run.at ≤ count_of (task_of run.task)
+  pub within : run.at ≤ statement_count (task_of run.task)
 
 -- a run is where it was
-pub record Stays (old new : Run) : Type 0 where
+pub record RunStays (old new : Run) : Type 0 where
   pub place : config_of new ≡ config_of old
   pub sound : IsSound new
 
 -- the cell of a receiver, if there is one
 abbrev pub only_cell : Option Place → List Cell
 only_cell None = []
-only_cell (Some cell) = cell_of cell ∷ []
+only_cell (Some cell) = cell_view cell ∷ []
 
 -- a statement that holds no block, and is no call
 abbrev pub IsSimple : Statement → Type 0

@@ -33,9 +33,9 @@ task_of (task.Exchange element calls) =
     (Then (exchange calls.at (lvalue_of element.now)) End))
 
 -- one of them
-abbrev pub line_of : Line → Statement
-line_of (line.Text stmt back) = turned back (statement_of stmt.now)
-line_of (line.Make made) = New made.at (AnObject made.class.now) (Whole made.name.now)
-line_of (line.Delete made) = Delete made.at (AnObject made.class.now) (Whole made.name.now)
-line_of (line.Exchange at element) = exchange at (lvalue_of element.now)
-line_of (line.Call calls) = held_call calls
+abbrev pub statement_line : Line → Statement
+statement_line (line.Text stmt back) = turned back (statement_of stmt.now)
+statement_line (line.Make made) = New made.at (AnObject made.class.now) (Whole made.name.now)
+statement_line (line.Delete made) = Delete made.at (AnObject made.class.now) (Whole made.name.now)
+statement_line (line.Exchange at element) = exchange at (lvalue_of element.now)
+statement_line (line.Call calls) = held_call calls

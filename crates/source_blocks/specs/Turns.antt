@@ -1,12 +1,12 @@
 -- A loop that goes on in the other part of its iteration.
 use Rattle.std.specs.Prelude.{◌≡◌, ◌++◌, Bool, if◌then◌else◌, List, [], ◌∷◌}
 use Rattle.rpp_tree.specs.Tree.{Statements, End}
-use Rattle.source_steps.specs.meaning_machine.Machine.{Config, Part, First, Again, Open, turned_to}
+use Rattle.source_steps.specs.meaning_machine.Machine.{Config, OpenPart, First, Again, Open, turned_to}
 use Rattle.source_blocks.specs.declared.frames.Frame.{Frame}
 use Rattle.source_blocks.specs.Opens.{open_of, part_of, IsOpen}
 
 -- the part of a loop's iteration in which it goes on: the second, or the first
-abbrev pub loop_part : Bool → Part → Part
+abbrev pub loop_part : Bool → OpenPart → OpenPart
 loop_part second (First entry first again exit) =
     if second then Again entry first again exit else First entry first again exit
 loop_part second (Again entry first again exit) =
@@ -14,7 +14,7 @@ loop_part second (Again entry first again exit) =
 loop_part second part = part
 
 -- its block, or nothing if the loop runs there already
-abbrev pub loop_block : Bool → Part → Statements
+abbrev pub loop_block : Bool → OpenPart → Statements
 loop_block second (First entry first again exit) = if second then again else End
 loop_block second (Again entry first again exit) = if second then End else first
 loop_block second part = End

@@ -4,10 +4,10 @@ ghost use Rattle.rpp_tree.specs.Tree.{Whole, Object as AnObject};
 ghost use Rattle.rpp_tree.specs.Views.{creation_of, lvalue_of, statement_of};
 ghost use Rattle.source_steps.specs.meaning_machine.Reversed.{undeleted as undeleted_in, unmade as unmade_in};
 ghost use Rattle.source_steps.specs.Ends.{turned};
-ghost use Rattle.source_steps.specs.Metered.{Gives, metered, OnFault};
+ghost use Rattle.source_steps.specs.Metered.{MeteredGives, metered, OnFault};
 ghost use Rattle.source_steps.specs.StateView.{setting_of};
 ghost use Rattle.source_blocks.specs.Requests.{is_request as asks, taken_back};
-ghost use Rattle.source_blocks.specs.Tasks.{line_of};
+ghost use Rattle.source_blocks.specs.Tasks.{statement_line};
 ghost use Rattle.source_blocks.specs.Runs.{IsSound, state_in};
 
 use crate::run::{Run, scope_of};
@@ -37,7 +37,7 @@ fn is_asking(stmt: &Stmt) -> bool
 /// Whether a statement of a block that runs is `new` or `delete`.
 #[tactic(auto, using(crate::proofs::TurnedKinds::asks_turned))]
 pub fn is_request(line: &Line) -> bool
-    ensures { result ≡ asks (line_of line.now) }
+    ensures { result ≡ asks (statement_line line.now) }
 {
     match line {
         Line::Text { stmt, .. } => is_asking(stmt),
@@ -51,7 +51,7 @@ pub fn is_request(line: &Line) -> bool
 /// A `new` is undone.
 fn unmake(run: &mut Run, fuel: &mut u64, place: &Place) -> Result<(), Stop>
     requires sound { IsSound run.old }
-    ensures gives { Gives (λ u. state_in run.new) result fuel.new
+    ensures gives { MeteredGives (λ u. state_in run.new) result fuel.new
         (metered fuel.old (unmade_in (setting_of run.old.setting) (lvalue_of place.now)
         (state_in run.old))) }
     ensures sound { OnOk result (IsSound run.new) }
@@ -73,7 +73,7 @@ fn unmake(run: &mut Run, fuel: &mut u64, place: &Place) -> Result<(), Stop>
 /// A `delete` is undone.
 fn undelete(run: &mut Run, fuel: &mut u64, made: &Made, place: &Place) -> Result<(), Stop>
     requires sound { IsSound run.old }
-    ensures gives { Gives (λ u. state_in run.new) result fuel.new
+    ensures gives { MeteredGives (λ u. state_in run.new) result fuel.new
         (metered fuel.old (undeleted_in (setting_of run.old.setting) (creation_of made.now)
         (lvalue_of place.now) (state_in run.old))) }
     ensures sound { OnOk result (IsSound run.new) }
@@ -96,7 +96,7 @@ fn undelete(run: &mut Run, fuel: &mut u64, made: &Made, place: &Place) -> Result
 /// The `delete` of the object of a `construct` is undone.
 fn undelete_named(run: &mut Run, fuel: &mut u64, class: &Ident, name: &Ident) -> Result<(), Stop>
     requires sound { IsSound run.old }
-    ensures gives { Gives (λ u. state_in run.new) result fuel.new
+    ensures gives { MeteredGives (λ u. state_in run.new) result fuel.new
         (metered fuel.old (undeleted_in (setting_of run.old.setting) (AnObject class.now)
         (Whole name.now) (state_in run.old))) }
     ensures sound { OnOk result (IsSound run.new) }
@@ -125,7 +125,7 @@ fn undelete_named(run: &mut Run, fuel: &mut u64, class: &Ident, name: &Ident) ->
 /// The `new` of the object of a `construct` is undone.
 fn unmake_named(run: &mut Run, fuel: &mut u64, name: &Ident) -> Result<(), Stop>
     requires sound { IsSound run.old }
-    ensures gives { Gives (λ u. state_in run.new) result fuel.new
+    ensures gives { MeteredGives (λ u. state_in run.new) result fuel.new
         (metered fuel.old (unmade_in (setting_of run.old.setting) (Whole name.now)
         (state_in run.old))) }
     ensures sound { OnOk result (IsSound run.new) }
@@ -142,7 +142,7 @@ fn unmake_named(run: &mut Run, fuel: &mut u64, name: &Ident) -> Result<(), Stop>
 /// A `new` or `delete` of the text, as it stands.
 fn take_back(run: &mut Run, fuel: &mut u64, stmt: &Stmt) -> Result<(), Stop>
     requires sound { IsSound run.old }
-    ensures gives { Gives (λ u. state_in run.new) result fuel.new
+    ensures gives { MeteredGives (λ u. state_in run.new) result fuel.new
         (metered fuel.old (taken_back (setting_of run.old.setting) (statement_of stmt.now)
         (state_in run.old))) }
     ensures sound { OnOk result (IsSound run.new) }
@@ -177,7 +177,7 @@ fn take_back(run: &mut Run, fuel: &mut u64, stmt: &Stmt) -> Result<(), Stop>
 /// A `new` or `delete` of the text, undone.
 fn take_undone_back(run: &mut Run, fuel: &mut u64, stmt: &Stmt) -> Result<(), Stop>
     requires sound { IsSound run.old }
-    ensures gives { Gives (λ u. state_in run.new) result fuel.new
+    ensures gives { MeteredGives (λ u. state_in run.new) result fuel.new
         (metered fuel.old (taken_back (setting_of run.old.setting)
         (turned true (statement_of stmt.now)) (state_in run.old))) }
     ensures sound { OnOk result (IsSound run.new) }
@@ -212,8 +212,8 @@ fn take_undone_back(run: &mut Run, fuel: &mut u64, stmt: &Stmt) -> Result<(), St
 /// A `new` or `delete` of a block that runs is undone.
 pub fn take_line_back(run: &mut Run, fuel: &mut u64, line: &Line) -> Result<(), Stop>
     requires sound { IsSound run.old }
-    ensures gives { Gives (λ u. state_in run.new) result fuel.new
-        (metered fuel.old (taken_back (setting_of run.old.setting) (line_of line.now)
+    ensures gives { MeteredGives (λ u. state_in run.new) result fuel.new
+        (metered fuel.old (taken_back (setting_of run.old.setting) (statement_line line.now)
         (state_in run.old))) }
     ensures sound { OnOk result (IsSound run.new) }
     ensures same { run.new ≡ record run.old { heap = run.new.heap; values = run.new.values } }

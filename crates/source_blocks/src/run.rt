@@ -3,7 +3,7 @@ ghost use Rattle.std.specs.Prelude.{◌≡◌, ◌+◌, ◌<◌, ◌≤◌, ◌^
 ghost use Rattle.source_steps.specs.meaning_machine.Machine.{past_it, inside};
 ghost use Rattle.source_steps.specs.meaning_machine.Turned.{turn as turned_round};
 ghost use Rattle.source_steps.specs.StateView.{names_of};
-ghost use Rattle.source_blocks.specs.Blocks.{count_of};
+ghost use Rattle.source_blocks.specs.Blocks.{statement_count};
 ghost use Rattle.source_blocks.specs.Tasks.{task_of};
 ghost use Rattle.source_blocks.specs.Opens.{open_of, part_of, IsCaller, IsOpen};
 ghost use Rattle.source_blocks.specs.Turns.{loop_part, loop_block, gone_over, Changed};
@@ -46,7 +46,7 @@ pub fn scope_of<'a, 'b>(locals: &'b Vec<&'a [u8]>, params: &'b [Var], marks: u64
 
 /// The statement that began is past.
 pub fn pass(run: &mut Run)
-    requires within { run.old.at < count_of (task_of run.old.task) }
+    requires within { run.old.at < statement_count (task_of run.old.task) }
     requires sound { IsSound run.old }
     ensures passed { config_of run.new
         ≡ past_it (config_of run.old) (here_in run.old) (rest_in run.old) (state_in run.old) }
@@ -60,7 +60,7 @@ pub fn pass(run: &mut Run)
 /// A block begins in a part of the statement that began.
 pub fn open_block<'a>(run: &mut Run<'a>, part: Part<'a>, task: Task<'a>) -> Result<(), Stop>
     requires sound { IsSound run.old }
-    requires within { run.old.at < count_of (task_of run.old.task) }
+    requires within { run.old.at < statement_count (task_of run.old.task) }
     requires part { IsCaller part }
     ensures opened { MatchResult result (λ u. config_of run.new
         ≡ inside (config_of run.old) (here_in run.old) (rest_in run.old) (part_of part.entry)

@@ -2,10 +2,10 @@
 ghost use Rattle.std.specs.Prelude.{◌≡◌, ◌≤◌, OnOk, true, IfErr};
 ghost use Rattle.rpp_tree.specs.Tree.{New, Delete, Whole, Object as AnObject};
 ghost use Rattle.rpp_tree.specs.Views.{statement_of, lvalue_of};
-ghost use Rattle.source_steps.specs.Ends.{Ends, turned, does_simply};
-ghost use Rattle.source_steps.specs.Metered.{Gives, OnFault};
+ghost use Rattle.source_steps.specs.Ends.{EndsAs, turned, does_simply};
+ghost use Rattle.source_steps.specs.Metered.{MeteredGives, OnFault};
 ghost use Rattle.source_steps.specs.StateView.{IsFramed, state_of};
-ghost use Rattle.source_blocks.specs.Tasks.{exchange, line_of};
+ghost use Rattle.source_blocks.specs.Tasks.{exchange, statement_line};
 ghost use Rattle.source_blocks.specs.Runs.{IsSound, IsSimple, state_in};
 ghost use Rattle.source_blocks.specs.Stops.{MayStop};
 
@@ -30,7 +30,7 @@ fn do_statement(
 ) -> Result<(), Stop>
     requires framed { IsFramed setting.now scope.now heap.old values.old.items }
     requires simple { IsSimple (statement_of s.now) }
-    ensures ends { Ends setting.now scope.now result heap.new values.new.items fuel.new
+    ensures ends { EndsAs setting.now scope.now result heap.new values.new.items fuel.new
         (does_simply setting.now fuel.old (statement_of s.now)
         (state_of setting.now scope.now heap.old values.old.items)) }
     ensures framed { OnOk result (IsFramed setting.now scope.now heap.new values.new.items) }
@@ -91,7 +91,7 @@ fn undo_statement(
 ) -> Result<(), Stop>
     requires framed { IsFramed setting.now scope.now heap.old values.old.items }
     requires simple { IsSimple (statement_of s.now) }
-    ensures ends { Ends setting.now scope.now result heap.new values.new.items fuel.new
+    ensures ends { EndsAs setting.now scope.now result heap.new values.new.items fuel.new
         (does_simply setting.now fuel.old (turned true (statement_of s.now))
         (state_of setting.now scope.now heap.old values.old.items)) }
     ensures framed { OnOk result (IsFramed setting.now scope.now heap.new values.new.items) }
@@ -155,7 +155,7 @@ fn undo_statement(
 pub fn carry_out(run: &mut Run, fuel: &mut u64, s: &Stmt, back: bool) -> Result<(), Stop>
     requires sound { IsSound run.old }
     requires simple { IsSimple (turned back (statement_of s.now)) }
-    ensures gives { Gives (λ u. state_in run.new) result fuel.new
+    ensures gives { MeteredGives (λ u. state_in run.new) result fuel.new
         (does_simply run.old.setting fuel.old (turned back (statement_of s.now))
         (state_in run.old)) }
     ensures sound { OnOk result (IsSound run.new) }
@@ -188,7 +188,7 @@ pub fn carry_out(run: &mut Run, fuel: &mut u64, s: &Stmt, back: bool) -> Result<
 /// The object of a `construct` is made.
 fn make(run: &mut Run, fuel: &mut u64, at: u32, class: &Ident, name: &Ident) -> Result<(), Stop>
     requires sound { IsSound run.old }
-    ensures gives { Gives (λ u. state_in run.new) result fuel.new
+    ensures gives { MeteredGives (λ u. state_in run.new) result fuel.new
         (does_simply run.old.setting fuel.old (New at (AnObject class.now) (Whole name.now))
         (state_in run.old)) }
     ensures sound { OnOk result (IsSound run.new) }
@@ -218,7 +218,7 @@ fn make(run: &mut Run, fuel: &mut u64, at: u32, class: &Ident, name: &Ident) -> 
 /// It is deleted.
 fn unmake(run: &mut Run, fuel: &mut u64, at: u32, class: &Ident, name: &Ident) -> Result<(), Stop>
     requires sound { IsSound run.old }
-    ensures gives { Gives (λ u. state_in run.new) result fuel.new
+    ensures gives { MeteredGives (λ u. state_in run.new) result fuel.new
         (does_simply run.old.setting fuel.old (Delete at (AnObject class.now) (Whole name.now))
         (state_in run.old)) }
     ensures sound { OnOk result (IsSound run.new) }
@@ -248,7 +248,7 @@ fn unmake(run: &mut Run, fuel: &mut u64, at: u32, class: &Ident, name: &Ident) -
 /// An element and the variable that holds it during a call on it are exchanged.
 fn hold(run: &mut Run, fuel: &mut u64, at: u32, element: &Place) -> Result<(), Stop>
     requires sound { IsSound run.old }
-    ensures gives { Gives (λ u. state_in run.new) result fuel.new
+    ensures gives { MeteredGives (λ u. state_in run.new) result fuel.new
         (does_simply run.old.setting fuel.old (exchange at (lvalue_of element.now))
         (state_in run.old)) }
     ensures sound { OnOk result (IsSound run.new) }
@@ -279,14 +279,14 @@ fn hold(run: &mut Run, fuel: &mut u64, at: u32, element: &Place) -> Result<(), S
 /// A simple statement of a block that runs.
 pub fn carry_line(run: &mut Run, fuel: &mut u64, line: &Line) -> Result<(), Stop>
     requires sound { IsSound run.old }
-    requires simple { IsSimple (line_of line.now) }
-    ensures gives { Gives (λ u. state_in run.new) result fuel.new
-        (does_simply run.old.setting fuel.old (line_of line.now) (state_in run.old)) }
+    requires simple { IsSimple (statement_line line.now) }
+    ensures gives { MeteredGives (λ u. state_in run.new) result fuel.new
+        (does_simply run.old.setting fuel.old (statement_line line.now) (state_in run.old)) }
     ensures sound { OnOk result (IsSound run.new) }
     ensures same { run.new ≡ record run.old { heap = run.new.heap; values = run.new.values } }
     ensures stays { OnFault result (run.new ≡ run.old) }
     ensures less { fuel.new ≤ fuel.old }
-    ensures stops { IfErr result (λ why. MayStop (line_of line.now) why) }
+    ensures stops { IfErr result (λ why. MayStop (statement_line line.now) why) }
 {
     match line {
         Line::Text { stmt, back } => carry_out(run, fuel, stmt, *back),

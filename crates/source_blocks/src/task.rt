@@ -4,8 +4,8 @@ ghost use Rattle.rpp_tree.specs.Views.{block_of, statement_of};
 ghost use Rattle.source_steps.specs.inverse_rules.Inverse.{inverse};
 ghost use Rattle.source_steps.specs.roopl_semantics.Execution.{in_direction};
 ghost use Rattle.source_steps.specs.Ends.{turned};
-ghost use Rattle.source_blocks.specs.Blocks.{statement_at, count_of};
-ghost use Rattle.source_blocks.specs.Tasks.{task_of, line_of};
+ghost use Rattle.source_blocks.specs.Blocks.{statement_at, statement_count};
+ghost use Rattle.source_blocks.specs.Tasks.{task_of, statement_line};
 
 use rpp_tree::tree::{Block, Ident, Place, Stmt};
 
@@ -66,8 +66,8 @@ pub enum Line<'a> {
 #[tactic(auto, using(crate::proofs::Blocks::block_count, crate::proofs::Blocks::line_forward, crate::proofs::Blocks::line_backward))]
 #[inline(always)]
 pub fn statement_in<'a>(block: &'a Block, back: bool, at: usize) -> Option<&'a Stmt>
-    ensures past { IfNone result (count_of (in_direction back (block_of block.now)) ≤ at) }
-    ensures within { IfSome result (λ s. at < count_of (in_direction back (block_of block.now))) }
+    ensures past { IfNone result (statement_count (in_direction back (block_of block.now)) ≤ at) }
+    ensures within { IfSome result (λ s. at < statement_count (in_direction back (block_of block.now))) }
     ensures statement { IfSome result (λ s. turned back (statement_of s.now)
         ≡ statement_at at (in_direction back (block_of block.now))) }
 {
@@ -86,9 +86,9 @@ pub fn statement_in<'a>(block: &'a Block, back: bool, at: usize) -> Option<&'a S
 /// The statement of a `construct` after so many.
 #[tactic(auto, using(crate::proofs::Blocks::block_count, crate::proofs::Blocks::made_count, crate::proofs::Blocks::made_inside, crate::proofs::Blocks::made_last))]
 fn line_in_construct<'a>(made: &Construct<'a>, at: usize) -> Option<Line<'a>>
-    ensures past { IfNone result (count_of (task_of (Task.Made made.now)) ≤ at) }
-    ensures within { IfSome result (λ line. at < count_of (task_of (Task.Made made.now))) }
-    ensures statement { IfSome result (λ line. line_of line
+    ensures past { IfNone result (statement_count (task_of (Task.Made made.now)) ≤ at) }
+    ensures within { IfSome result (λ line. at < statement_count (task_of (Task.Made made.now))) }
+    ensures statement { IfSome result (λ line. statement_line line
         ≡ statement_at at (task_of (Task.Made made.now))) }
 {
     if at == 0 {
@@ -111,10 +111,10 @@ fn line_in_construct<'a>(made: &Construct<'a>, at: usize) -> Option<Line<'a>>
 
 /// The statement of a call on an element after so many.
 fn line_in_exchange<'a>(element: &'a Place, calls: &Calls<'a>, at: usize) -> Option<Line<'a>>
-    ensures past { IfNone result (count_of (task_of (Task.Exchange element.entry calls.now)) ≤ at) }
+    ensures past { IfNone result (statement_count (task_of (Task.Exchange element.entry calls.now)) ≤ at) }
     ensures within { IfSome result (λ line. at
-        < count_of (task_of (Task.Exchange element.entry calls.now))) }
-    ensures statement { IfSome result (λ line. line_of line
+        < statement_count (task_of (Task.Exchange element.entry calls.now))) }
+    ensures statement { IfSome result (λ line. statement_line line
         ≡ statement_at at (task_of (Task.Exchange element.entry calls.now))) }
 {
     match at {
@@ -133,9 +133,9 @@ fn line_in_exchange<'a>(element: &'a Place, calls: &Calls<'a>, at: usize) -> Opt
 
 /// The statement of a block that runs after so many, if there is one.
 pub fn line_at<'a>(task: &Task<'a>, at: usize) -> Option<Line<'a>>
-    ensures past { IfNone result (count_of (task_of task.now) ≤ at) }
-    ensures within { IfSome result (λ line. at < count_of (task_of task.now)) }
-    ensures statement { IfSome result (λ line. line_of line ≡ statement_at at (task_of task.now)) }
+    ensures past { IfNone result (statement_count (task_of task.now) ≤ at) }
+    ensures within { IfSome result (λ line. at < statement_count (task_of task.now)) }
+    ensures statement { IfSome result (λ line. statement_line line ≡ statement_at at (task_of task.now)) }
 {
     match task {
         Task::Nothing => None,
@@ -151,7 +151,7 @@ pub fn line_at<'a>(task: &Task<'a>, at: usize) -> Option<Line<'a>>
 /// How many statements a block that runs has.
 #[tactic(auto, using(crate::proofs::Blocks::block_count, crate::proofs::Blocks::made_count))]
 pub fn count_in(task: &Task) -> usize
-    ensures { result ≡ count_of (task_of task.now) }
+    ensures { result ≡ statement_count (task_of task.now) }
 {
     match task {
         Task::Nothing => 0,

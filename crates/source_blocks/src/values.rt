@@ -3,7 +3,7 @@ ghost use Rattle.std.specs.Prelude.{◌<◌, ◌≤◌, IfOk, IfErr};
 ghost use Rattle.rpp_tree.specs.Views.{expression_of};
 ghost use Rattle.source_steps.specs.roopl_semantics.Value.{evaluated};
 ghost use Rattle.source_steps.specs.source_store.ValueView.{value_of};
-ghost use Rattle.source_steps.specs.Metered.{Gives, metered, IsOwn};
+ghost use Rattle.source_steps.specs.Metered.{MeteredGives, metered, IsOwn};
 ghost use Rattle.source_steps.specs.StateView.{setting_of};
 ghost use Rattle.source_blocks.specs.Opens.{closing_of};
 ghost use Rattle.source_blocks.specs.Runs.{IsSound, state_in};
@@ -17,7 +17,7 @@ use source_store::Value;
 /// The value of an expression of the text.
 pub fn value_in(run: &Run, fuel: &mut u64, e: &Expr) -> Result<Value, Stop>
     requires sound { IsSound run.now }
-    ensures gives { Gives value_of result fuel.new
+    ensures gives { MeteredGives value_of result fuel.new
         (metered fuel.old (evaluated (setting_of run.now.setting).program (expression_of e.now)
         (state_in run.now))) }
     ensures less { fuel.new ≤ fuel.old }
@@ -31,7 +31,7 @@ pub fn value_in(run: &Run, fuel: &mut u64, e: &Expr) -> Result<Value, Stop>
 /// What a local variable begins or ends with.
 pub fn closing_value(run: &Run, fuel: &mut u64, closing: &Closing) -> Result<Value, Stop>
     requires sound { IsSound run.now }
-    ensures gives { Gives value_of result fuel.new
+    ensures gives { MeteredGives value_of result fuel.new
         (metered fuel.old (evaluated (setting_of run.now.setting).program (closing_of closing.now)
         (state_in run.now))) }
     ensures less { fuel.new ≤ fuel.old }

@@ -6,10 +6,10 @@ use Rattle.rpp_tree.specs.Places.{statement_place}
 use Rattle.source_blocks.specs.roopl_semantics.Store.{State, Value}
 use Rattle.source_blocks.specs.roopl_semantics.Value.{Cell}
 use Rattle.source_blocks.specs.roopl_semantics.Execution.{Setting}
-use Rattle.source_blocks.specs.meaning_machine.Machine.{Config, Open, Part, Caller, Calling}
+use Rattle.source_blocks.specs.meaning_machine.Machine.{Config, Open, OpenPart, Caller, Calling}
 use Rattle.source_blocks.specs.declared.frames.Frame.{Frame}
 use Rattle.source_blocks.specs.Endings.{IsInCall}
-use Rattle.source_blocks.specs.Blocks.{statement_at, count_of}
+use Rattle.source_blocks.specs.Blocks.{statement_at, statement_count}
 use Rattle.source_blocks.specs.Tasks.{task_of}
 use Rattle.source_blocks.specs.Opens.{open_of, HasPart}
 use Rattle.source_blocks.proofs.Opened.{around_more}
@@ -21,7 +21,7 @@ use Rattle.source_compared.specs.Comparisons.{Compared}
 use Rattle.source_checks.specs.Checks.{touched}
 use Rattle.source_checks.specs.TestedView.{tested_of, around_place, around_touched, part_touched}
 
-pub part_is : (program : Source) (st : State) (around : List Open) (p : Part) (statement : ℕ) (t : Tested)
+pub part_is : (program : Source) (st : State) (around : List Open) (p : OpenPart) (statement : ℕ) (t : Tested)
     → HasPart around p → statement ≡ around_place around → t ≡ tested_part program st statement p
     → t ≡ tested_around program st around
 part_is program st around p statement t h place e =
@@ -53,7 +53,7 @@ call_is program st around statement t h place e =
     called statement compared =
         record { word = codes "call"; at = statement; statement = statement; compared = compared }
 
-none_at : (at : ℕ) (body : Statements) → count_of body ≤ at → 0 ≡ statement_place (statement_at at body)
+none_at : (at : ℕ) (body : Statements) → statement_count body ≤ at → 0 ≡ statement_place (statement_at at body)
 none_at at End h = refl
 none_at zero (Then s rest) h = absurd (omega arith)
 none_at (suc at) (Then s rest) h = none_at at rest (omega arith)
@@ -66,7 +66,7 @@ around_is frames frame e =
     ∙ ap around_place (around_more last.front frame)
 
 pub past_place : (frames : List Frame) (frame : Frame) → Some frame ≡ slice_get frames (length frames - 1)
-    → count_of (task_of frame.task) ≤ frame.at → 0 ≡ around_place (map open_of (reverse frames))
+    → statement_count (task_of frame.task) ≤ frame.at → 0 ≡ around_place (map open_of (reverse frames))
 past_place frames frame e h = none_at frame.at (task_of frame.task) h ∙ sym (around_is frames frame e)
 
 -- ---- what the next step tests

@@ -161,8 +161,8 @@ first_touched st (cell ∷ cells) = if is_zero (read st cell) then first_touched
     else to_be_zero (read st cell)
 
 -- the state of a caller once the method is past
-abbrev pub caller_state : Caller → State → State
-caller_state caller st = record {
+abbrev pub checked_caller_state : Caller → State → State
+checked_caller_state caller st = record {
   frame = caller.frame;
   self = caller.self;
   depth = caller.depth;
@@ -172,4 +172,4 @@ caller_state caller st = record {
 
 -- the first lent variable that was changed during the call: what was in it moved away
 abbrev pub touched : Caller → (receiver args : List Cell) → State → Compared
-touched caller receiver args st = first_touched (caller_state caller st) (receiver ++ args)
+touched caller receiver args st = first_touched (checked_caller_state caller st) (receiver ++ args)

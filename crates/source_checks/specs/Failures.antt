@@ -8,19 +8,19 @@ use Rattle.source_blocks.specs.roopl_semantics.Run.{Run, Done, Fault, More}
 use Rattle.source_blocks.specs.roopl_semantics.Store.{State}
 use Rattle.source_blocks.specs.roopl_semantics.Value.{Slot, read, value}
 use Rattle.source_blocks.specs.roopl_semantics.Execution.{Setting}
-use Rattle.source_blocks.specs.meaning_machine.Machine.{Config, Open, Part, next}
+use Rattle.source_blocks.specs.meaning_machine.Machine.{Config, Open, OpenPart, next}
 use Rattle.source_blocks.specs.meaning_machine.Machine.{Chosen, First, Again, Holding, Calling}
 use Rattle.source_compared.specs.Comparisons.{Compared, Nothing, truth, same_as}
 use Rattle.source_compared.specs.TestWords.{choice_word, loop_word, local_word}
 use Rattle.source_checks.specs.Checks.{failing_access, touched, compared_begin}
 
 -- the offset of an expression's first token
-abbrev pub first_place : Expression → ℕ
-first_place (Number at word) = at
-first_place (Null at) = at
-first_place (Variable name) = name.at
-first_place (Element name index) = name.at
-first_place (Binary at op left right) = first_place left
+abbrev pub first_offset : Expression → ℕ
+first_offset (Number at word) = at
+first_offset (Null at) = at
+first_offset (Variable name) = name.at
+first_offset (Element name index) = name.at
+first_offset (Binary at op left right) = first_offset left
 
 -- the tests of a loop
 pub record Tests : Type 0 where
@@ -44,23 +44,23 @@ module _ (program : Source) where
   abbrev pub tested_truth : State → (statement : ℕ) → (word : List ℕ) → Expression → Bool → Tested
   tested_truth st statement word test wanted = record {
     word = word;
-    at = first_place test;
+    at = first_offset test;
     statement = statement;
     compared = truth wanted (failing_access program st test)
         (value program st test);
   }
 
   -- what is tested at the end of a block, by the part of the open statement that ends
-  abbrev pub tested_part : State → (statement : ℕ) → Part → Tested
+  abbrev pub tested_part : State → (statement : ℕ) → OpenPart → Tested
   tested_part st statement (Chosen side test after) =
-      tested_truth st statement (choice_word (first_place after) (first_place test)) after side
+      tested_truth st statement (choice_word (first_offset after) (first_offset test)) after side
   tested_part st statement (First entry first again exit) =
-      tested_truth st statement (loop_word (first_place exit) (first_place entry)) exit true
+      tested_truth st statement (loop_word (first_offset exit) (first_offset entry)) exit true
   tested_part st statement (Again entry first again exit) =
-      tested_truth st statement (loop_word (first_place entry) (first_place exit)) entry false
+      tested_truth st statement (loop_word (first_offset entry) (first_offset exit)) entry false
   tested_part st statement (Holding name begin end) = record {
-    word = local_word name (first_place end) (first_place begin);
-    at = first_place end;
+    word = local_word name (first_offset end) (first_offset begin);
+    at = first_offset end;
     statement = statement;
     compared = same_as (read st (Slot 0)) (failing_access program st end)
         (value program st end);
@@ -87,7 +87,7 @@ module _ (setting : Setting) (code : ℕ) where
   }
   tested_begin st s (Some tests) =
       tested_truth setting.program st (statement_place s)
-      (loop_word (first_place tests.entry) (first_place tests.exit)) tests.entry true
+      (loop_word (first_offset tests.entry) (first_offset tests.exit)) tests.entry true
 
   -- what is tested where a statement begins, or where a block ends
   abbrev pub tested_here : State → Statements → List Open → Tested

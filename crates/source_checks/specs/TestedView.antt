@@ -3,7 +3,7 @@ use Rattle.std.specs.Prelude.{ℕ, Bool, true, false, List, [], ◌∷◌}
 use Rattle.rpp_tree.specs.Places.{statement_place}
 use Rattle.rpp_tree.specs.Views.{expression_of}
 use Rattle.source_blocks.specs.roopl_semantics.Store.{State}
-use Rattle.source_blocks.specs.meaning_machine.Machine.{Open, Part, Calling}
+use Rattle.source_blocks.specs.meaning_machine.Machine.{Open, OpenPart, Calling}
 use Rattle.source_blocks.specs.source_store.ValueView.{value_of}
 use Rattle.source_checks.specs.declared.checks.Subject.{Subject as Looks}
 use Rattle.source_checks.specs.declared.testing.Tested.{Tested as Tests}
@@ -35,7 +35,7 @@ around_place [] = 0
 around_place (o ∷ around) = statement_place o.here
 
 -- what was written into lent variables, if the innermost open statement is a call
-abbrev pub part_touched : State → Part → Compared
+abbrev pub part_touched : State → OpenPart → Compared
 part_touched st (Calling caller receiver args held) = touched caller receiver args st
 part_touched st _ = Nothing
 
@@ -47,6 +47,6 @@ abbrev pub loop_of : LoopTests → Loop
 loop_of it = record { entry = expression_of it.entry.now; exit = expression_of it.exit.now }
 
 -- the tests of a loop, in a direction
-abbrev pub exchanged : Bool → Loop → Loop
-exchanged true it = record { entry = it.exit; exit = it.entry }
-exchanged false it = it
+abbrev pub exchanged_loop : Bool → Loop → Loop
+exchanged_loop true it = record { entry = it.exit; exit = it.entry }
+exchanged_loop false it = it

@@ -7,7 +7,7 @@ ghost use Rattle.source_blocks.specs.source_steps.Ends.{turned};
 ghost use Rattle.source_blocks.specs.source_steps.StateView.{setting_of};
 ghost use Rattle.source_blocks.specs.Opens.{closing_of};
 ghost use Rattle.source_blocks.specs.Runs.{IsSound, state_in};
-ghost use Rattle.source_blocks.specs.Tasks.{line_of};
+ghost use Rattle.source_blocks.specs.Tasks.{statement_line};
 ghost use Rattle.source_compared.specs.Comparisons.{first_of as first_of_two, access_at as access_of};
 ghost use Rattle.source_checks.specs.Checks.{failing_access as failing_access_of, place_access as place_access_of, size_access as size_access_of, begin_access as begin_access_of};
 ghost use Rattle.source_compared.specs.ComparedView.{compared_of};
@@ -173,7 +173,7 @@ fn access_backward(run: &Run, stmt: &Stmt) -> Result<Compared, Lack>
 pub(crate) fn begin_access(run: &Run, line: &Line) -> Result<Compared, Lack>
     requires sound { IsSound run.now }
     ensures { IfOk result (λ it. compared_of it ≡ begin_access_of
-        (setting_of run.now.setting).program (state_in run.now) (line_of line.now)) }
+        (setting_of run.now.setting).program (state_in run.now) (statement_line line.now)) }
 {
     match line {
         Line::Text { stmt, back } => {

@@ -6,10 +6,10 @@ ghost use Rattle.rpp_tree.specs.Views.{creation_of, expression_of, lvalue_of, st
 ghost use Rattle.source_blocks.specs.class_rules.Classes.{class_number};
 ghost use Rattle.source_blocks.specs.roopl_semantics.Store.{Value as Worth, Nil, object_at};
 ghost use Rattle.source_blocks.specs.roopl_semantics.Value.{value as value_in_state, read_cell as read_found, element_cell, element_of};
-ghost use Rattle.source_blocks.specs.source_store.ValueView.{value_of, values_of, head_of};
+ghost use Rattle.source_blocks.specs.source_store.ValueView.{value_of, values_of, kept_head};
 ghost use Rattle.source_blocks.specs.source_steps.StateView.{setting_of};
 ghost use Rattle.source_blocks.specs.Runs.{IsSound, state_in};
-ghost use Rattle.source_blocks.specs.Tasks.{line_of};
+ghost use Rattle.source_blocks.specs.Tasks.{statement_line};
 ghost use Rattle.source_checks.specs.Checks.{or_nil, is_array as is_array_of, held as held_in, created as created_of, copied as copied_of, subject as subject_in_state, unlike as unlike_of, first_filled as first_filled_of, check as check_of, compared_begin as compared_begin_of, no_subject};
 ghost use Rattle.source_compared.specs.ComparedView.{compared_of, IsValue};
 ghost use Rattle.source_checks.specs.TestedView.{subject_of};
@@ -237,7 +237,7 @@ fn subject_in(run: &Run, stmt: &Stmt) -> Result<Subject, Lack>
 fn subject_at(run: &Run, line: &Line) -> Result<Subject, Lack>
     requires sound { IsSound run.now }
     ensures { IfOk result (λ it. subject_of it ≡ subject_in_state
-        (setting_of run.now.setting).program (state_in run.now) (line_of line.now)) }
+        (setting_of run.now.setting).program (state_in run.now) (statement_line line.now)) }
 {
     match line {
         Line::Text { stmt, .. } => subject_in(run, stmt),
@@ -274,7 +274,7 @@ fn filled_in(heap: &Heap, name: u32) -> Compared
 
 // What an object is.
 fn head_in(heap: &Heap, name: u32) -> Head
-    ensures { head_of result ≡ (object_at heap.now.store name).head }
+    ensures { kept_head result ≡ (object_at heap.now.store name).head }
 {
     match heap.object(name) {
         None => Head::Ints(0),
@@ -332,7 +332,7 @@ fn check(run: &Run, code: u32, it: &Subject) -> Compared
 pub(crate) fn compare_begin(run: &Run, code: u32, line: &Line) -> Result<Compared, Lack>
     requires sound { IsSound run.now }
     ensures { IfOk result (λ it. compared_of it ≡ compared_begin_of (setting_of run.now.setting)
-        (state_in run.now) code (line_of line.now)) }
+        (state_in run.now) code (statement_line line.now)) }
 {
     let access = begin_access(run, line)?;
     let subject = subject_at(run, line)?;

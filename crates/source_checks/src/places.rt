@@ -3,9 +3,9 @@ ghost use Rattle.std.specs.Prelude.{◌≡◌, ◌<◌, ◌≤◌, IfNone, IfSom
 ghost use Rattle.rpp_tree.specs.Places.{statement_place};
 ghost use Rattle.rpp_tree.specs.Views.{expression_of};
 ghost use Rattle.source_blocks.specs.Opens.{closing_of};
-ghost use Rattle.source_blocks.specs.Blocks.{count_of, statement_at};
-ghost use Rattle.source_blocks.specs.Tasks.{line_of, task_of};
-ghost use Rattle.source_checks.specs.Failures.{first_place as first_place_of};
+ghost use Rattle.source_blocks.specs.Blocks.{statement_count, statement_at};
+ghost use Rattle.source_blocks.specs.Tasks.{statement_line, task_of};
+ghost use Rattle.source_checks.specs.Failures.{first_offset as first_place_of};
 
 use rpp_tree::place_of;
 use rpp_tree::tree::Expr;
@@ -14,7 +14,7 @@ use source_blocks::{Closing, Line, Task, line_at, statement_in};
 /// The offset of a statement that runs: inverted, it has the offset that it had.
 #[tactic(auto, using(crate::proofs::Undone::place_turned))]
 pub fn line_place(line: &Line) -> u32
-    ensures { result ≡ statement_place (line_of line.now) }
+    ensures { result ≡ statement_place (statement_line line.now) }
 {
     match line {
         Line::Text { stmt, .. } => place_of(stmt),
@@ -26,8 +26,8 @@ pub fn line_place(line: &Line) -> u32
 
 // The offset of the statement after so many of a block that is no block of the text.
 fn line_place_at(task: &Task, at: usize) -> Option<u32>
-    ensures past { IfNone result (count_of (task_of task.now) ≤ at) }
-    ensures within { IfSome result (λ place. at < count_of (task_of task.now)) }
+    ensures past { IfNone result (statement_count (task_of task.now) ≤ at) }
+    ensures within { IfSome result (λ place. at < statement_count (task_of task.now)) }
     ensures place { IfSome result (λ place. place
         ≡ statement_place (statement_at at (task_of task.now))) }
 {
@@ -39,8 +39,8 @@ fn line_place_at(task: &Task, at: usize) -> Option<u32>
 
 /// The offset of the statement of a block that runs after so many, if there is one.
 pub fn place_at(task: &Task, at: usize) -> Option<u32>
-    ensures past { IfNone result (count_of (task_of task.now) ≤ at) }
-    ensures within { IfSome result (λ place. at < count_of (task_of task.now)) }
+    ensures past { IfNone result (statement_count (task_of task.now) ≤ at) }
+    ensures within { IfSome result (λ place. at < statement_count (task_of task.now)) }
     ensures place { IfSome result (λ place. place
         ≡ statement_place (statement_at at (task_of task.now))) }
 {

@@ -3,12 +3,12 @@ ghost use Rattle.std.specs.Prelude.{◌≡◌, IfOk, map, reverse, option_map};
 ghost use Rattle.rpp_tree.specs.Places.{statement_place};
 ghost use Rattle.rpp_tree.specs.Views.{expression_of, statement_of};
 ghost use Rattle.source_blocks.specs.source_steps.StateView.{setting_of};
-ghost use Rattle.source_blocks.specs.Tasks.{line_of};
+ghost use Rattle.source_blocks.specs.Tasks.{statement_line};
 ghost use Rattle.source_blocks.specs.Opens.{open_of, part_of};
 ghost use Rattle.source_blocks.specs.Runs.{IsSound, config_of, state_in};
 ghost use Rattle.source_blocks.specs.declared.frames.Part.TheVariants as part;
 ghost use Rattle.source_checks.specs.Failures.{tests_of, tested_truth, tested_part, tested_around, tested_begin, tested as tested_at};
-ghost use Rattle.source_checks.specs.TestedView.{tested_of, around_place, loop_of, exchanged};
+ghost use Rattle.source_checks.specs.TestedView.{tested_of, around_place, loop_of, exchanged_loop};
 
 use crate::accesses::{closing_access, failing_access};
 use crate::checks::compare_begin;
@@ -165,7 +165,7 @@ fn tests_in<'a>(stmt: &'a Stmt) -> Option<LoopTests<'a>>
 
 // The tests of a loop, in a direction.
 fn in_direction<'a>(back: bool, tests: LoopTests<'a>) -> LoopTests<'a>
-    ensures { loop_of result ≡ exchanged back (loop_of tests.entry) }
+    ensures { loop_of result ≡ exchanged_loop back (loop_of tests.entry) }
 {
     if back {
         LoopTests {
@@ -179,7 +179,7 @@ fn in_direction<'a>(back: bool, tests: LoopTests<'a>) -> LoopTests<'a>
 
 // The tests of a statement that runs, if it is a loop.
 fn tests_at<'a>(line: &Line<'a>) -> Option<LoopTests<'a>>
-    ensures { option_map loop_of result ≡ tests_of (line_of line.now) }
+    ensures { option_map loop_of result ≡ tests_of (statement_line line.now) }
 {
     match line {
         Line::Text { stmt, back } => match tests_in(stmt) {
@@ -197,7 +197,7 @@ fn tests_at<'a>(line: &Line<'a>) -> Option<LoopTests<'a>>
 fn test_begin(run: &Run, code: u32, line: &Line) -> Result<Tested, Lack>
     requires sound { IsSound run.now }
     ensures { IfOk result (λ it. tested_of it ≡ tested_begin (setting_of run.now.setting) code
-        (state_in run.now) (line_of line.now) (tests_of (line_of line.now))) }
+        (state_in run.now) (statement_line line.now) (tests_of (statement_line line.now))) }
 {
     let place = line_place(line);
     match tests_at(line) {

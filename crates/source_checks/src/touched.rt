@@ -1,7 +1,7 @@
 // What was written into lent variables during a call.
 ghost use Rattle.std.specs.Prelude.{◌≡◌, ◌++◌, length, map, reverse};
 ghost use Rattle.source_blocks.specs.source_store.ValueView.{values_of};
-ghost use Rattle.source_blocks.specs.source_steps.CellView.{cell_of};
+ghost use Rattle.source_blocks.specs.source_steps.CellView.{cell_view};
 ghost use Rattle.source_blocks.specs.source_steps.StateView.{IsFramed, bindings, state_of, setting_of};
 ghost use Rattle.source_blocks.specs.Opens.{open_of, caller_of, caller_names, cells_in};
 ghost use Rattle.source_blocks.specs.Runs.{IsSound, state_in};
@@ -24,7 +24,7 @@ fn first_touched(
 ) -> Compared
     requires { IsFramed setting.now scope.now heap.now values.now }
     ensures { compared_of result ≡ first_touched_of
-        (state_of setting.now scope.now heap.now values.now) (map cell_of cells.now) }
+        (state_of setting.now scope.now heap.now values.now) (map cell_view cells.now) }
 {
     match cells {
         [] => Compared::Nothing,
@@ -61,7 +61,7 @@ fn touched(run: &Run, caller: &Caller) -> Compared
     requires each { length caller.now.values.items ≡ length (caller_names caller.now) }
     requires marked { AreMarked caller.now.marks (caller_names caller.now) }
     ensures { compared_of result ≡ touched_of (caller_of caller.now)
-        (cells_in caller.now.receiver) (map cell_of caller.now.args.items) (state_in run.now) }
+        (cells_in caller.now.receiver) (map cell_view caller.now.args.items) (state_in run.now) }
 {
     let setting = caller_setting(&run.setting, caller);
     let scope = scope_of(&caller.locals, caller.params, caller.marks);

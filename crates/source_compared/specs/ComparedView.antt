@@ -3,7 +3,7 @@ use Rattle.std.specs.Prelude.{◌≡◌, ℕ, Some, None, Result, Ok, Err}
 use Rattle.std.specs.declared.option.Option.{Option}
 use Rattle.source_store.specs.roopl_semantics.Store.{Value}
 use Rattle.source_store.specs.declared.value.Value.{Value as Held}
-use Rattle.source_store.specs.ValueView.{value_of, head_of}
+use Rattle.source_store.specs.ValueView.{value_of, kept_head}
 use Rattle.source_compared.specs.declared.comparing.Compared.{Compared as Compares}
 use Rattle.source_compared.specs.declared.comparing.Compared.TheVariants as compares
 use Rattle.source_compared.specs.Comparisons.{Compared, Truth, Values, Below, Missing, Count}
@@ -17,7 +17,7 @@ compared_of (compares.Missing array) = Missing array
 compared_of (compares.Count found) = Count found
 compared_of (compares.Length found wanted) = Length (value_of found) wanted
 compared_of (compares.Size found) = Size (value_of found)
-compared_of (compares.Heads found wanted) = Heads (head_of found) (head_of wanted)
+compared_of (compares.Heads found wanted) = Heads (kept_head found) (kept_head wanted)
 compared_of compares.Nothing = Nothing
 
 -- the value of an expression, or none if its evaluation meets a fault

@@ -15,15 +15,15 @@ use Rattle.source_execution.specs.roopl_semantics.Store.{State, Store, Binding, 
 use Rattle.source_execution.specs.roopl_semantics.Source.{source, IsValid}
 use Rattle.source_execution.specs.roopl_semantics.Execution.{Setting}
 use Rattle.source_execution.proofs.roopl_semantics_laws.MoreFuel.{within_done, within_fault, IsDoneWithin, IsFaultWithin}
-use Rattle.source_execution.specs.meaning_points.Points.{Point, behind as behind_run}
+use Rattle.source_execution.specs.meaning_points.Points.{Point, points_behind as behind_run}
 use Rattle.source_execution.specs.meaning_points.Trail.{Trail, trail}
 use Rattle.meaning_reversed.specs.meaning_machine.Machine.{Config, next, walk, seen, point_of as point_in}
-use Rattle.meaning_reversed.specs.meaning_machine.SourceLaws.{set_for, start_of}
+use Rattle.meaning_reversed.specs.meaning_machine.SourceLaws.{set_for, start_config}
 use Rattle.meaning_reversed.specs.meaning_machine.TrailLaws.{BeginsWith}
 use Rattle.meaning_reversed.proofs.meaning_machine_laws.Steps.{plus, seen_plus}
 use Rattle.meaning_reversed.proofs.meaning_machine_laws.Sources.{joined}
 use Rattle.meaning_reversed.proofs.meaning_machine_laws.Trails.{walked}
-use Rattle.meaning_reversed.specs.meaning_sound.Sound.{name_of}
+use Rattle.meaning_reversed.specs.meaning_sound.Sound.{binding_name}
 use Rattle.meaning_reversed.proofs.meaning_sound_laws.Stated.{end_is_sound}
 use Rattle.source_execution.specs.source_store.HeapView.{Kept}
 use Rattle.source_execution.specs.source_steps.Metered.{Went, Stopped, metered, Failed, IsFault}
@@ -149,7 +149,7 @@ surely_passes w (x ∷ xs) h =
 pub record HasCome (program : Source) (limits : Limits) (input : List FieldWord) (most : ℕ) (c : Course)
     (from at : Watching) : Type 0 where
   pub way : IsUnderWay program limits input most c
-  pub seen : watched from (seen (set_for program limits) way.steps (start_of program input)) ≡ Passed at
+  pub seen : watched from (seen (set_for program limits) way.steps (start_config program input)) ≡ Passed at
 
 pub come_here : (program : Source) (limits : Limits) (input : List FieldWord) (most : ℕ) (c : Course)
     (from at : Watching) → IsUnderWay program limits input most c → c.passed ≤ surely from
@@ -158,13 +158,13 @@ come_here program limits input most c from at way sure same =
     let count = way.count in
     record {
       way = way;
-      seen = surely_passes from (seen (set_for program limits) way.steps (start_of program input)) (omega arith)
+      seen = surely_passes from (seen (set_for program limits) way.steps (start_config program input)) (omega arith)
           ∙ ap (λ (k : ℕ). Passed (ahead from k)) count ∙ ap Passed (sym same);
     }
 
 pub begins_here : (program : Source) (limits : Limits) (input : List FieldWord) (most : ℕ) (c : Course)
     → c.fuel ≡ most → c.passed ≡ 0 → setting_at c.execution ≡ set_for program limits
-    → config_at c.execution ≡ start_of program input → c.execution.broken ≡ false
+    → config_at c.execution ≡ start_config program input → c.execution.broken ≡ false
     → IsUnderWay program limits input most c
 begins_here program limits input most c fuel none setting start whole = record {
   steps = 0;
@@ -182,7 +182,7 @@ module _ (program : Source) (limits : Limits) (input : List FieldWord) (n : ℕ)
   here = set_for program limits
 
   abbrev first : Config
-  first = start_of program input
+  first = start_config program input
 
   abbrev x : Config
   x = config_at c.execution
@@ -270,7 +270,7 @@ stands x a heap p f i d s l =
     ∙ ap (λ k. record x.state { log = k }) l in
     ap (λ (k : ℕ). record (point_of a heap) { params = k }) p ∙ ap at_state state
 
-no_names : (frame : List Binding) → map name_of frame ≡ [] → frame ≡ []
+no_names : (frame : List Binding) → map binding_name frame ≡ [] → frame ≡ []
 no_names [] e = refl
 no_names (b ∷ frame) e = cc
 
@@ -279,7 +279,7 @@ module _ (program : Source) (limits : Limits) (input : List FieldWord) (n : ℕ)
   abbrev now : Config
   now = config_at c.execution
 
-  done : IsDoneWithin n (walk (set_for program limits) come.way.steps (start_of program input)) now come.way.cost
+  done : IsDoneWithin n (walk (set_for program limits) come.way.steps (start_config program input)) now come.way.cost
   done = came_done program limits input n c from at come
 
   -- at the end
@@ -327,12 +327,12 @@ module _ (program : Source) (limits : Limits) (input : List FieldWord) (n : ℕ)
       let some = is.some in
       let spent = come.way.spent in
       let along : BeginsWith (trail program limits input n).points
-      (seen (set_for program limits) come.way.steps (start_of program input))
+      (seen (set_for program limits) come.way.steps (start_config program input))
       (point_in (set_for program limits) now.params now.state now.rest) =
       (walked program limits input n).along come.way.steps now come.way.cost done.is (omega arith) in
       subst (λ (e : Ended). IsEnded e (heap_of c) from (trail program limits input n)) (sym is.is)
       (ap (watched from) along.are
-      ∙ watched_on from at (seen (set_for program limits) come.way.steps (start_of program input)) _ come.seen
+      ∙ watched_on from at (seen (set_for program limits) come.way.steps (start_config program input)) _ come.seen
       ∙ meets (set_for program limits) at now.params is.arrival.place now.state now.rest along.more
       want is.begins
       ∙ ap (Met at) (sym is.point))
@@ -346,7 +346,7 @@ module _ (program : Source) (limits : Limits) (input : List FieldWord) (n : ℕ)
   is_stopped (Err none) heap why left not e is = tt
   is_stopped (Ok e) heap (stop.Fault code) left not failed is =
       let cost : ℕ = come.way.cost + (c.fuel - left) in
-      let w : IsFaultWithin n (walk (set_for program limits) (plus come.way.steps 1) (start_of program input)) code
+      let w : IsFaultWithin n (walk (set_for program limits) (plus come.way.steps 1) (start_config program input)) code
       cost = stops program limits input n c from at come not left code failed in
       let end = (walked program limits input n).fault (plus come.way.steps 1) code cost w.is w.in_fuel in
       subst (λ (e : Ended). IsEnded e heap from (trail program limits input n)) (sym is) (record {

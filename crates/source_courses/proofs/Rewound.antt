@@ -11,9 +11,9 @@ use Rattle.source_execution.specs.roopl_semantics.Store.{State}
 use Rattle.source_execution.specs.roopl_semantics.Source.{IsValid}
 use Rattle.source_execution.specs.roopl_semantics.Execution.{Setting}
 use Rattle.source_execution.proofs.roopl_semantics_laws.MoreFuel.{within_done, IsDoneWithin}
-use Rattle.source_execution.specs.meaning_points.Points.{Point, behind as behind_run}
+use Rattle.source_execution.specs.meaning_points.Points.{Point, points_behind as behind_run}
 use Rattle.meaning_reversed.specs.meaning_machine.Machine.{Config, Open, closing, stepped, next, walk, seen, point_of as point_in}
-use Rattle.meaning_reversed.specs.meaning_machine.SourceLaws.{set_for, start_of}
+use Rattle.meaning_reversed.specs.meaning_machine.SourceLaws.{set_for, start_config}
 use Rattle.meaning_reversed.specs.meaning_machine.Turned.{each_undone, turn}
 use Rattle.meaning_reversed.proofs.meaning_machine_laws.Steps.{plus, walk_plus, seen_plus}
 use Rattle.meaning_reversed.proofs.meaning_machine_laws.Turning.{turned_twice}
@@ -194,7 +194,7 @@ module _ (program : Source) (limits : Limits) (input : List FieldWord) (n : ℕ)
   here = set_for program limits
 
   abbrev first : Config
-  first = start_of program input
+  first = start_config program input
 
   -- reversed, it represents the position that it had
   turned_to : (x : Config) → HasLed program limits input n x c → later.fuel ≡ c.fuel → later.passed ≡ c.passed

@@ -5,7 +5,7 @@ use Rattle.source_execution.specs.rpp_words.declared.input.Limits.{Limits}
 use Rattle.source_execution.specs.rpp_tree.Tree.{Source}
 use Rattle.source_execution.specs.roopl_semantics.Run.{Done}
 use Rattle.meaning_reversed.specs.meaning_machine.Machine.{Config, walk, seen}
-use Rattle.meaning_reversed.specs.meaning_machine.SourceLaws.{set_for, start_of}
+use Rattle.meaning_reversed.specs.meaning_machine.SourceLaws.{set_for, start_config}
 use Rattle.meaning_reversed.specs.meaning_machine.Turned.{turn}
 use Rattle.source_execution.specs.source_store.HeapView.{Kept}
 use Rattle.source_execution.specs.Standing.{config_at, setting_at}
@@ -18,9 +18,9 @@ pub record HasLed (program : Source) (limits : Limits) (input : List FieldWord) 
     (x : Config) (c : Course) : Type 0 where
   pub steps : ℕ
   pub cost : ℕ
-  pub came : walk (set_for program limits) steps (start_of program input) ≡ Done x cost
+  pub came : walk (set_for program limits) steps (start_config program input) ≡ Done x cost
   pub spent : cost + c.fuel ≤ most
-  pub count : length (seen (set_for program limits) steps (start_of program input)) ≡ c.passed
+  pub count : length (seen (set_for program limits) steps (start_config program input)) ≡ c.passed
   pub same : setting_at c.execution ≡ set_for program limits
   pub whole : c.execution.broken ≡ false
 

@@ -6,7 +6,7 @@ ghost use Rattle.source_execution.specs.meaning_points.Trail.{trail};
 ghost use Rattle.meaning_reversed.specs.meaning_machine.Machine.{next};
 ghost use Rattle.meaning_reversed.specs.meaning_machine.Turned.{turn as turned_round};
 ghost use Rattle.meaning_reversed.specs.meaning_machine.Reversed.{back as next_back};
-ghost use Rattle.source_execution.specs.source_steps.Metered.{Gives, metered, IsFault, OnFault};
+ghost use Rattle.source_execution.specs.source_steps.Metered.{MeteredGives, metered, IsFault, OnFault};
 ghost use Rattle.source_execution.specs.source_statements.Steps.{StepFalls};
 ghost use Rattle.source_execution.specs.Standing.{config_at, setting_at, next_place};
 ghost use Rattle.source_courses.specs.declared.running.TheConstants.{MOST_COST};
@@ -114,7 +114,7 @@ fn counted(passed: u64, place: Option<u32>) -> Result<u64, Stop>
 fn step(course: &mut Course, here: Option<u32>) -> Result<(), Stop>
     requires whole { course.old.execution.broken ≡ false }
     requires here { here ≡ next_place (config_at course.old.execution).rest }
-    ensures gives { Gives (λ u. config_at course.new.execution) result course.new.fuel
+    ensures gives { MeteredGives (λ u. config_at course.new.execution) result course.new.fuel
         (metered course.old.fuel
         (next (setting_at course.old.execution) (config_at course.old.execution))) }
     ensures passed { OnOk result (course.new.passed ≡ counted_at course.old.passed
@@ -160,7 +160,7 @@ fn uncounted(passed: u64, place: Option<u32>) -> u64
 fn step_back(course: &mut Course) -> Result<(), Stop>
     requires whole { course.old.execution.broken ≡ false }
     requires some { 0 < course.old.passed }
-    ensures gives { Gives (λ u. config_at course.new.execution) result course.new.fuel
+    ensures gives { MeteredGives (λ u. config_at course.new.execution) result course.new.fuel
         (metered course.old.fuel
         (next_back (setting_at course.old.execution) (config_at course.old.execution))) }
     ensures passed { OnOk result (course.old.passed ≡ counted_at course.new.passed

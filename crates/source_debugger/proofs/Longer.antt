@@ -20,7 +20,7 @@ use Rattle.source_courses.specs.declared.moves.Walk.{Walk}
 use Rattle.source_courses.specs.declared.moves.Ending.TheVariants.{Made}
 use Rattle.source_courses.specs.Walks.{Stand, Unknown, end_stand, point_stand, stand_at, has_place, is_at, Onward}
 use Rattle.source_courses.specs.Walks.{Moves, Stays, beyond, onward, ends, move_on, forward, backward}
-use Rattle.source_debugger.specs.Shown.{Told, line_at, regs_at, cells_at, tells, walked, told_by, behind_text, and_told}
+use Rattle.source_debugger.specs.Shown.{Told, line_at, regs_at, cells_shown_at, reply_at, walked_trail, told_by, behind_text, and_told}
 use Rattle.source_debugger.specs.Shown.{told}
 
 -- a longer trail of the same run: the same one if the run is over, else one with more trace points
@@ -142,31 +142,31 @@ module _ (short long : Trail) (more : List Point) (open_end : short.end ≡ More
     inside : t.position < length short.points
 
   told_at : (j : ℕ) (text : Stand → Option (List ℕ)) (t : Told) → text Unknown ≡ None
-      → tells j (text (stand_at short j)) ≡ Some t → SameAnswer (tells j (text (stand_at short j)))
-      (tells j (text (stand_at long j))) t
+      → reply_at j (text (stand_at short j)) ≡ Some t → SameAnswer (reply_at j (text (stand_at short j)))
+      (reply_at j (text (stand_at long j))) t
   told_at j text t none e = by (nat_lt j (length short.points)) refl
     where
-      position_is : (o : Option (List ℕ)) → tells j o ≡ Some t → j ≡ t.position
+      position_is : (o : Option (List ℕ)) → reply_at j o ≡ Some t → j ≡ t.position
       position_is None e = cc
       position_is (Some x) e = cc
 
       by : (b : Bool) → nat_lt j (length short.points) ≡ b
-          → SameAnswer (tells j (text (stand_at short j))) (tells j (text (stand_at long j))) t
+          → SameAnswer (reply_at j (text (stand_at short j))) (reply_at j (text (stand_at long j))) t
       by true l =
           let less = ltb-true j (length short.points) l in
           let at = position_is (text (stand_at short j)) e in
-          record { then_same = ap (λ s. tells j (text s)) (stand_front j less) ∙ e; inside = omega arith }
+          record { then_same = ap (λ s. reply_at j (text s)) (stand_front j less) ∙ e; inside = omega arith }
       by false l =
           let past = ltb-false j (length short.points) l in
-          let no : None ≡ Some t = sym (ap (λ s. tells j (text s)) (hidden j past) ∙ ap (tells j) none) ∙ e in
+          let no : None ≡ Some t = sym (ap (λ s. reply_at j (text s)) (hidden j past) ∙ ap (reply_at j) none) ∙ e in
           cc
 
-  walked_same : (a b : Option Walk) (t : Told) → ((w : Walk) → a ≡ Some w → b ≡ Some w) → walked short a ≡ Some t
-      → SameAnswer (walked short a) (walked long b) t
+  walked_same : (a b : Option Walk) (t : Told) → ((w : Walk) → a ≡ Some w → b ≡ Some w) → walked_trail short a ≡ Some t
+      → SameAnswer (walked_trail short a) (walked_trail long b) t
   walked_same None b t h e = cc
   walked_same (Some w) b t h e =
       let same = told_at w.position (λ s. line_at w.position s w.ending) t refl e in
-      record { then_same = ap (walked long) (h w refl) ∙ same.then_same; inside = same.inside }
+      record { then_same = ap (walked_trail long) (h w refl) ∙ same.then_same; inside = same.inside }
 
   told_same : (program : Source) (command : Command) (j : ℕ) (t : Told) → j ≤ length short.points
       → told_by program short command j ≡ Some t → SameAnswer (told_by program short command j)
@@ -180,7 +180,7 @@ module _ (short long : Trail) (more : List Point) (open_end : short.end ≡ More
   told_same program (BackTo place n) j t h e = walked_same (Some (backward short (Some place) n j))
       (Some (backward long (Some place) n j)) t (λ w is. ap Some (backward_front (Some place) n j h) ∙ is) e
   told_same program Regs j t h e = told_at j (regs_at program) t refl e
-  told_same program (Cells from count) j t h e = told_at j (cells_at program from count) t refl e
+  told_same program (Cells from count) j t h e = told_at j (cells_shown_at program from count) t refl e
 
   abbrev BelowAll : Source → List Command → Type 0
   BelowAll program commands = (k : ℕ) (u : Told) → k ≤ length short.points → told program short commands k ≡ Some u

@@ -13,7 +13,7 @@ use Rattle.source_execution.specs.roopl_semantics.Report.{Text, head_shown}
 use Rattle.source_execution.specs.roopl_semantics.Execution.{Setting}
 use Rattle.source_execution.specs.meaning_points.Trail.{Trail, trail}
 use Rattle.source_execution.specs.meaning_machine.Machine.{Config, next}
-use Rattle.source_execution.specs.meaning_machine.SourceLaws.{set_for, start_of}
+use Rattle.source_execution.specs.meaning_machine.SourceLaws.{set_for, start_config}
 use Rattle.source_execution.specs.source_checks.source_compared.Comparisons.{Compared, Truth}
 use Rattle.source_execution.specs.source_checks.source_compared.Comparisons.{Values, Below, Missing}
 use Rattle.source_execution.specs.source_checks.source_compared.Comparisons.{Count, Length, Size}
@@ -90,7 +90,7 @@ failure_at show setting (Some x) = failure_by show setting x (next setting x)
 -- what is shown of what fails, if the run of a program on an input stops with a fault
 abbrev pub failure : Source → Limits → List FieldWord → Show → Option Text
 failure program limits input show = failure_at show (set_for program limits)
-    (failing (set_for program limits) MOST_STEPS (start_of program input))
+    (failing (set_for program limits) MOST_STEPS (start_config program input))
 
 -- ---- what is reported of a run
 

@@ -20,18 +20,18 @@ use Rattle.source_lines.specs.Named.{fields_named, objects_from}
 use Rattle.source_debugger.specs.Named.{frame_named}
 
 -- what the line on moves says of how they ended, with the line's end
-abbrev pub ending_shown : Ending → Text
-ending_shown Made = line_end
-ending_shown Start = codes " start" ++ line_end
-ending_shown (Faulted code) = codes " " ++ fault_line code
+abbrev pub source_ending_shown : Ending → Text
+source_ending_shown Made = line_end
+source_ending_shown Start = codes " start" ++ line_end
+source_ending_shown (Faulted code) = codes " " ++ fault_line code
 
 -- the position, where it is, and how moves ended there
 abbrev pub line_at : ℕ → Stand → Ending → Option Text
 line_at j (AtPoint point) ending =
     Some (codes "at " ++ decimal j ++ codes " place " ++ decimal point.place ++ codes " depth "
-    ++ decimal point.state.depth ++ ending_shown ending)
+    ++ decimal point.state.depth ++ source_ending_shown ending)
 line_at j (AtEnd end) ending = Some (codes "at " ++ decimal j ++ codes " end"
-    ++ ending_shown ending)
+    ++ source_ending_shown ending)
 line_at j Unknown ending = None
 
 -- the fields of the object on which the trace point's method runs, and the method's variables; at
@@ -47,35 +47,35 @@ regs_at program (AtEnd end) = Some (state_named program 0 end)
 regs_at program Unknown = None
 
 -- the objects and arrays of so many names from one on
-abbrev pub cells_at : Source → (from count : ℕ) → Stand → Option Text
-cells_at program from count (AtPoint point) =
+abbrev pub cells_shown_at : Source → (from count : ℕ) → Stand → Option Text
+cells_shown_at program from count (AtPoint point) =
     Some (objects_from program point.state.store from count)
-cells_at program from count (AtEnd end) = Some (objects_from program end.store from count)
-cells_at program from count Unknown = None
+cells_shown_at program from count (AtEnd end) = Some (objects_from program end.store from count)
+cells_shown_at program from count Unknown = None
 
 -- where a command leads, and what it prints; none if the run is not known so far
 pub record Told : Type 0 where
   pub position : ℕ
   pub text : Text
 
-abbrev pub tells : ℕ → Option Text → Option Told
-tells j None = None
-tells j (Some text) = Some (record { position = j; text = text })
+abbrev pub reply_at : ℕ → Option Text → Option Told
+reply_at j None = None
+reply_at j (Some text) = Some (record { position = j; text = text })
 
-abbrev pub walked : Trail → Option Walk → Option Told
-walked trail None = None
-walked trail (Some walk) =
-    tells walk.position (line_at walk.position (stand_at trail walk.position) walk.ending)
+abbrev pub walked_trail : Trail → Option Walk → Option Told
+walked_trail trail None = None
+walked_trail trail (Some walk) =
+    reply_at walk.position (line_at walk.position (stand_at trail walk.position) walk.ending)
 
 -- a command that is given at a position
 abbrev pub told_by : Source → Trail → Command → ℕ → Option Told
-told_by program trail (Step n) j = walked trail (forward trail None n j)
-told_by program trail (Back n) j = walked trail (Some (backward trail None n j))
-told_by program trail (To place n) j = walked trail (forward trail (Some place) n j)
-told_by program trail (BackTo place n) j = walked trail (Some (backward trail (Some place) n j))
-told_by program trail Regs j = tells j (regs_at program (stand_at trail j))
-told_by program trail (Cells from count) j = tells j
-    (cells_at program from count (stand_at trail j))
+told_by program trail (Step n) j = walked_trail trail (forward trail None n j)
+told_by program trail (Back n) j = walked_trail trail (Some (backward trail None n j))
+told_by program trail (To place n) j = walked_trail trail (forward trail (Some place) n j)
+told_by program trail (BackTo place n) j = walked_trail trail (Some (backward trail (Some place) n j))
+told_by program trail Regs j = reply_at j (regs_at program (stand_at trail j))
+told_by program trail (Cells from count) j = reply_at j
+    (cells_shown_at program from count (stand_at trail j))
 
 -- a text before what is printed
 abbrev pub behind_text : Text → Option Told → Option Told

@@ -10,7 +10,7 @@ use Rattle.source_execution.specs.rpp_tree.Tree.{Source}
 use Rattle.source_execution.specs.roopl_semantics.Run.{Done}
 use Rattle.source_execution.specs.roopl_semantics.Report.{Text}
 use Rattle.source_execution.specs.meaning_machine.Machine.{Config, walk, seen}
-use Rattle.source_execution.specs.meaning_machine.SourceLaws.{set_for, start_of}
+use Rattle.source_execution.specs.meaning_machine.SourceLaws.{set_for, start_config}
 use Rattle.source_execution.specs.class_rules.Classes.{class_fields}
 use Rattle.source_execution.specs.roopl_semantics.Store.{class_of_head, object_at}
 use Rattle.source_execution.specs.Calls.{Active, active_calls, CallState}
@@ -29,8 +29,8 @@ pub record IsThere (program : Source) (limits : Limits) (input : List FieldWord)
     (x : Config) : Type 0 where
   pub steps : ℕ
   pub cost : ℕ
-  pub came : walk (set_for program limits) steps (start_of program input) ≡ Done x cost
-  pub passed : length (seen (set_for program limits) steps (start_of program input)) ≡ position
+  pub came : walk (set_for program limits) steps (start_config program input) ≡ Done x cost
+  pub passed : length (seen (set_for program limits) steps (start_config program input)) ≡ position
   pub stands : IsPosition x
 
 -- ---- what is printed

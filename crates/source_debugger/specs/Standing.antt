@@ -19,18 +19,18 @@ pub record Standing : Type 0 where
   pub position : ℕ
 
 -- the run, as far as the debugger looks
-abbrev pub run_of : Standing → Trail
-run_of d = trail (source_of d.program) d.limits d.input MOST_COST
+abbrev pub trail_of : Standing → Trail
+trail_of d = trail (source_of d.program) d.limits d.input MOST_COST
 
 -- commands lead from one debugger position to another, and print this
-pub record Leads (before : Standing) (commands : List Command) (after : Standing)
+pub record CommandsLead (before : Standing) (commands : List Command) (after : Standing)
     (text : Text) : Type 0 where
-  pub told : told (source_of before.program) (run_of before) commands before.position
+  pub told : told (source_of before.program) (trail_of before) commands before.position
       ≡ Some (record { position = after.position; text = text })
   pub same : after ≡ record before { position = after.position }
 
 -- so many of the commands were carried out, and no others
-pub record IsAlong (before : Standing) (commands : List Command) (after : Standing) : Type 0 where
+pub record IsAlongRun (before : Standing) (commands : List Command) (after : Standing) : Type 0 where
   pub made : ℕ
   pub text : Text
-  pub leads : Leads before (take made commands) after text
+  pub leads : CommandsLead before (take made commands) after text

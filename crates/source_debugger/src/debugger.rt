@@ -5,8 +5,8 @@ ghost use Rattle.source_execution.specs.meaning_points.Trail.{trail};
 ghost use Rattle.source_execution.specs.rpp_words.Limits.{IsLimits};
 ghost use Rattle.source_courses.specs.declared.running.TheConstants.{MOST_COST};
 ghost use Rattle.source_courses.specs.declared.moves.TheConstants.{LAST_POSITION};
-ghost use Rattle.source_debugger.specs.Shown.{told_by, walked};
-ghost use Rattle.source_debugger.specs.Standing.{IsValidRun, run_of, Leads, IsAlong};
+ghost use Rattle.source_debugger.specs.Shown.{told_by, walked_trail};
+ghost use Rattle.source_debugger.specs.Standing.{IsValidRun, trail_of, CommandsLead, IsAlongRun};
 ghost use Rattle.source_courses.specs.Courses.{Holds};
 ghost use Rattle.source_debugger.specs.Looks.{seen_of};
 ghost use Rattle.source_debugger.specs.Failures.{account_of, fails_at, shown_of};
@@ -76,7 +76,7 @@ fn walk_answer<'a>(run: &Run<'a>, course: &mut Course<'a>, walk: Walk) -> Result
     requires holds { Holds (source_of run.now.checked.now) run.now.limits
         run.now.input.now.words.items course.old }
     ensures told { IfOk result (λ answer.
-        walked (trail (source_of run.now.checked.now) run.now.limits run.now.input.now.words.items
+        walked_trail (trail (source_of run.now.checked.now) run.now.limits run.now.input.now.words.items
         MOST_COST) (Some walk)
         ≡ Some (record { position = answer.position; text = string_bytes answer.text })) }
     ensures within { IfOk result (λ answer. answer.position ≡ walk.position) }
@@ -208,7 +208,7 @@ impl<'a> SourceDebugger<'a> {
         out: &mut String,
     ) -> Result<(), NoMemory>
         ensures told { OnOk result ((text : List ℕ)
-            × Leads self.old (command.now ∷ []) self.new text
+            × CommandsLead self.old (command.now ∷ []) self.new text
             × (string_bytes out.new ≡ string_bytes out.old ++ text)) }
         ensures kept { OnErr result (string_bytes out.new ≡ string_bytes out.old) }
         ensures stays { OnErr result (self.new ≡ self.old) }
@@ -233,10 +233,10 @@ impl<'a> SourceDebugger<'a> {
         script: &[Command],
         out: &mut String,
     ) -> Result<(), NoMemory>
-        ensures told { OnOk result ((text : List ℕ) × Leads self.old script.now self.new text
+        ensures told { OnOk result ((text : List ℕ) × CommandsLead self.old script.now self.new text
             × (string_bytes out.new ≡ string_bytes out.old ++ text)) }
         ensures kept { OnErr result (string_bytes out.new ≡ string_bytes out.old) }
-        ensures along { OnErr result (IsAlong self.old script.now self.new) }
+        ensures along { OnErr result (IsAlongRun self.old script.now self.new) }
     {
         let mut text = String::new(alloc);
         for command in script {
@@ -249,7 +249,7 @@ impl<'a> SourceDebugger<'a> {
     /// What is at the position. One that the run does not have counts as `NoMemory`.
     pub fn look(&mut self, alloc: Global) -> Result<Seen, NoMemory>
         ensures seen { IfOk result
-            (λ seen. seen_of (stand_at (run_of self.old) self.old.position) ≡ Some seen) }
+            (λ seen. seen_of (stand_at (trail_of self.old) self.old.position) ≡ Some seen) }
         ensures stays { self.new ≡ self.old }
     {
         let run = Run {

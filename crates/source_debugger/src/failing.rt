@@ -4,7 +4,7 @@ ghost use Rattle.std.specs.Fmt.{decimal};
 ghost use Rattle.source_execution.specs.rpp_tree.Views.{source_of};
 ghost use Rattle.source_execution.specs.rpp_words.Texts.{line_end};
 ghost use Rattle.source_execution.specs.roopl_semantics.Report.{head_shown};
-ghost use Rattle.source_execution.specs.source_store.ValueView.{value_of, head_of};
+ghost use Rattle.source_execution.specs.source_store.ValueView.{value_of, kept_head};
 ghost use Rattle.source_execution.specs.Standing.{config_at, setting_at};
 ghost use Rattle.source_execution.specs.source_checks.source_compared.ComparedView.{compared_of};
 ghost use Rattle.source_execution.specs.source_checks.TestedView.{tested_of};
@@ -130,8 +130,8 @@ fn add_size(text: &mut String, found: Value) -> Result<(), AllocError>
 // The lines of what an object is, and what it must be.
 fn add_heads(text: &mut String, checked: &Checked, found: Head, wanted: Head) -> Result<(), Lack>
     ensures { OnOk result (string_bytes text.new ≡ string_bytes text.old
-        ++ found_wanted (head_shown (source_of checked.now) (head_of found))
-        (head_shown (source_of checked.now) (head_of wanted))) }
+        ++ found_wanted (head_shown (source_of checked.now) (kept_head found))
+        (head_shown (source_of checked.now) (kept_head wanted))) }
 {
     let program = checked.program();
     text.push_str("found ")?;

@@ -4,7 +4,7 @@ ghost use Rattle.source_execution.specs.rpp_tree.Views.{source_of};
 ghost use Rattle.source_execution.specs.meaning_points.Trail.{trail};
 ghost use Rattle.source_courses.specs.declared.running.TheConstants.{MOST_COST};
 ghost use Rattle.source_courses.specs.Walks.{stand_at};
-ghost use Rattle.source_debugger.specs.Shown.{ending_shown, line_at, regs_at, cells_at};
+ghost use Rattle.source_debugger.specs.Shown.{source_ending_shown, line_at, regs_at, cells_shown_at};
 ghost use Rattle.source_lines.specs.Named.{fields_named};
 ghost use Rattle.source_debugger.specs.Named.{frame_named};
 ghost use Rattle.source_execution.specs.class_rules.Classes.{class_fields};
@@ -31,7 +31,7 @@ const FEW_BYTES: usize = 64;
 
 // How moves ended, with the line's end.
 fn add_ending(text: &mut String, ending: Ending) -> Result<(), AllocError>
-    ensures { OnOk result (string_bytes text.new ≡ string_bytes text.old ++ ending_shown ending) }
+    ensures { OnOk result (string_bytes text.new ≡ string_bytes text.old ++ source_ending_shown ending) }
 {
     match ending {
         Ending::Made => text.push_str("\n"),
@@ -168,7 +168,7 @@ fn place_cells(
     from: u32,
     count: u32,
 ) -> Result<String, Lack>
-    ensures { IfOk result (λ text. cells_at (source_of checked.now) from count
+    ensures { IfOk result (λ text. cells_shown_at (source_of checked.now) from count
         (stand_of place.now heap.now)
         ≡ Some (string_bytes text)) }
 {
@@ -190,7 +190,7 @@ pub(crate) fn cells_text<'a>(
         run.now.input.now.words.items }
     requires holds { Holds (source_of run.now.checked.now) run.now.limits
         run.now.input.now.words.items course.old }
-    ensures told { IfOk result (λ text. cells_at (source_of run.now.checked.now) from count
+    ensures told { IfOk result (λ text. cells_shown_at (source_of run.now.checked.now) from count
         (stand_at (trail (source_of run.now.checked.now) run.now.limits
         run.now.input.now.words.items MOST_COST) position) ≡ Some (string_bytes text)) }
     ensures holds { Holds (source_of run.now.checked.now) run.now.limits

@@ -3,7 +3,7 @@ use Rattle.std.proofs.Common.{◌≡◌, ◌∙◌, refl, sym, ap, ℕ, ◌+◌,
 use Rattle.std.proofs.Common.{drop, length, Bool, false}
 use Rattle.std.specs.Prelude.{Option, Some, Result, Ok, Err, IfOk}
 use Rattle.std.proofs.lemmas.List.{map-append, reverse-append, reverse-reverse, drop_all, drop_more}
-use Rattle.source_checks.specs.meaning_machine.Machine.{Config, Open, Part}
+use Rattle.source_checks.specs.meaning_machine.Machine.{Config, Open, OpenPart}
 use Rattle.source_checks.specs.source_blocks.declared.frames.Frame.{Frame}
 use Rattle.source_checks.specs.source_blocks.declared.run.Run.{Run}
 use Rattle.source_checks.specs.source_blocks.Opens.{open_of}
@@ -46,7 +46,7 @@ last_inside run depth frames n found same past along is =
     ∙ ap (λ (fs : List Frame). inside_along depth (map open_of fs) (inside_last depth (config_of run))) same
     ∙ ap (λ (os : List Open). inside_along depth os (inside_last depth (config_of run))) (sym (outside_in run))
 
-found_first : (depth : ℕ) (part : Part) (it : CallState) (other : Option CallState) → Some it ≡ inside_part depth part
+found_first : (depth : ℕ) (part : OpenPart) (it : CallState) (other : Option CallState) → Some it ≡ inside_part depth part
     → Some it ≡ or_inner (inside_part depth part) other
 found_first depth part it other is = rw (sym is) refl
 

@@ -7,10 +7,10 @@ use Rattle.rpp_tree.specs.Tree.{Source}
 use Rattle.source_checks.specs.roopl_semantics.Run.{Run, Done, Fault, More, ◌>>=◌, after_cost}
 use Rattle.source_checks.specs.roopl_semantics.Execution.{Setting}
 use Rattle.source_checks.specs.meaning_machine.Machine.{Config, next, walk}
-use Rattle.source_checks.specs.meaning_machine.SourceLaws.{set_for, start_of}
+use Rattle.source_checks.specs.meaning_machine.SourceLaws.{set_for, start_config}
 use Rattle.source_checks.proofs.meaning_machine_laws.Sources.{joined}
 use Rattle.source_checks.specs.Failures.{failing, here_or_on}
-use Rattle.source_execution.specs.FailureLaws.{Means, Fails, FailsAsMeant}
+use Rattle.source_execution.specs.FailureLaws.{Means, StopsWithFault, FailsAsMeant}
 
 module _ (setting : Setting) where
   -- some number of steps stops with this fault
@@ -99,7 +99,7 @@ pub fails_as_meant : (program : Source) (limits : Limits) (input : List FieldWor
     → FailsAsMeant program limits input code
 fails_as_meant program limits input code = record {
   only = λ f.
-      let b = breaks (set_for program limits) f.n code f.spent (start_of program input) f.here f.first f.stops in
+      let b = breaks (set_for program limits) f.n code f.spent (start_config program input) f.here f.first f.stops in
       record {
         fuel = b.cost;
         cost = b.cost;
@@ -107,6 +107,6 @@ fails_as_meant program limits input code = record {
       };
   always = λ m.
       let b = (joined program limits input m.fuel).fault code m.cost m.fault in
-      let f = falls (set_for program limits) b.steps code m.cost (start_of program input) b.walks in
+      let f = falls (set_for program limits) b.steps code m.cost (start_config program input) b.walks in
       record { n = f.n; here = f.here; spent = f.spent; first = f.first; stops = f.stops };
 }

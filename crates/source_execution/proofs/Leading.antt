@@ -7,11 +7,11 @@ use Rattle.rpp_tree.specs.Tree.{Source}
 use Rattle.source_checks.specs.roopl_semantics.Run.{Run, Done, Fault, More, ◌>>=◌, after_cost}
 use Rattle.source_checks.specs.roopl_semantics.Execution.{Setting}
 use Rattle.source_checks.specs.meaning_machine.Machine.{Config, next, walk, stepped, closing}
-use Rattle.source_checks.specs.meaning_machine.SourceLaws.{set_for, start_of}
+use Rattle.source_checks.specs.meaning_machine.SourceLaws.{set_for, start_config}
 use Rattle.source_checks.proofs.meaning_machine_laws.Steps.{plus}
-use Rattle.source_checks.specs.source_steps.Metered.{Went, Stopped, metered, went, stopped, left_of}
+use Rattle.source_checks.specs.source_steps.Metered.{Went, Stopped, metered, went, stopped_metered, left_of}
 use Rattle.source_checks.proofs.source_steps_laws.Fuelled.{goes, gives}
-use Rattle.source_execution.specs.Standing.{Standing, IsOver, config_at, setting_at}
+use Rattle.source_execution.specs.Standing.{ExecutionStanding, IsOver, config_at, setting_at}
 use Rattle.source_checks.specs.Failures.{MOST_STEPS, failing, here_or_on}
 use Rattle.source_execution.specs.declared.falling.TheConstants.{MOST_FUEL}
 use Rattle.source_execution.specs.Falls.{IsFailing, failing_of}
@@ -31,11 +31,11 @@ went_is : {A : Type 0} (x end : A) (o : Option ℕ) (left : ℕ) → went x o �
 went_is x end None left e = cc
 went_is x end (Some k) left e = cc
 
-not_went : {A : Type 0} (code : ℕ) (end : A) (o : Option ℕ) (left : ℕ) → stopped code o ≡ Went end left → ⊥
+not_went : {A : Type 0} (code : ℕ) (end : A) (o : Option ℕ) (left : ℕ) → stopped_metered code o ≡ Went end left → ⊥
 not_went code end None left e = cc
 not_went code end (Some k) left e = cc
 
-stopped_is : {A : Type 0} (x code : ℕ) (o : Option ℕ) (left : ℕ) → stopped {A = A} x o ≡ Stopped code left → x ≡ code
+stopped_is : {A : Type 0} (x code : ℕ) (o : Option ℕ) (left : ℕ) → stopped_metered {A = A} x o ≡ Stopped code left → x ≡ code
 stopped_is x code None left e = cc
 stopped_is x code (Some k) left e = cc
 
@@ -117,15 +117,15 @@ module _ (program : Source) (limits : Limits) (input : List FieldWord) where
   here = set_for program limits
 
   abbrev start : Config
-  start = start_of program input
+  start = start_config program input
 
   -- so many steps have come here
-  pub record HasStepped (steps : ℕ) (e : Standing) (fuel : ℕ) : Type 0 where
+  pub record HasStepped (steps : ℕ) (e : ExecutionStanding) (fuel : ℕ) : Type 0 where
     pub came : metered MOST_FUEL (walk here steps start) ≡ Went (config_at e) fuel
     pub same : setting_at e ≡ here
     pub whole : e.broken ≡ false
 
-  pub at_start : (e : Standing) → config_at e ≡ start → setting_at e ≡ here → e.broken ≡ false
+  pub at_start : (e : ExecutionStanding) → config_at e ≡ start → setting_at e ≡ here → e.broken ≡ false
       → HasStepped 0 e MOST_FUEL
   at_start e c s w = record {
     came = gives MOST_FUEL start ∙ ap (λ (x : Config). Went x MOST_FUEL) (sym c);
@@ -133,11 +133,11 @@ module _ (program : Source) (limits : Limits) (input : List FieldWord) where
     whole = w;
   }
 
-  next_here : (e : Standing) (fuel : ℕ) → setting_at e ≡ here
+  next_here : (e : ExecutionStanding) (fuel : ℕ) → setting_at e ≡ here
       → metered fuel (next (setting_at e) (config_at e)) ≡ metered fuel (next here (config_at e))
   next_here e fuel s = ap (λ (k : Setting). metered fuel (next k (config_at e))) s
 
-  pub one_further : (steps more : ℕ) (e later : Standing) (fuel left : ℕ) → HasStepped steps e fuel
+  pub one_further : (steps more : ℕ) (e later : ExecutionStanding) (fuel left : ℕ) → HasStepped steps e fuel
       → metered fuel (next (setting_at e) (config_at e)) ≡ Went (config_at later) left
       → setting_at later ≡ setting_at e → later.broken ≡ false → more ≡ steps + 1 → HasStepped more later left
   one_further steps more e later fuel left h g s w m =
@@ -154,7 +154,7 @@ module _ (program : Source) (limits : Limits) (input : List FieldWord) where
       }
 
   -- the next step stops with a fault, and leaves the run where it was
-  pub fails_there : (steps : ℕ) (e there : Standing) (code fuel left : ℕ) → HasStepped steps e fuel → steps < MOST_STEPS
+  pub fails_there : (steps : ℕ) (e there : ExecutionStanding) (code fuel left : ℕ) → HasStepped steps e fuel → steps < MOST_STEPS
       → metered fuel (next (setting_at e) (config_at e)) ≡ Stopped code left → config_at there ≡ config_at e
       → setting_at there ≡ setting_at e → there.broken ≡ false
       → IsFailing program limits input (record { execution = there; code = code })
@@ -170,7 +170,7 @@ module _ (program : Source) (limits : Limits) (input : List FieldWord) where
         whole = whole;
       }
 
-  pub never_falls : (steps : ℕ) (e : Standing) (fuel : ℕ) → HasStepped steps e fuel → steps < MOST_STEPS
+  pub never_falls : (steps : ℕ) (e : ExecutionStanding) (fuel : ℕ) → HasStepped steps e fuel → steps < MOST_STEPS
       → IsOver (config_at e) → failing_of program limits input ≡ None
   never_falls steps e fuel h few over =
       let done = is_done MOST_FUEL (walk here steps start) (config_at e) fuel h.came in

@@ -15,7 +15,7 @@ use Rattle.source_checks.specs.source_store.HeapView.{Kept}
 use Rattle.source_checks.proofs.source_steps_laws.Tables.{fields_read}
 use Rattle.source_checks.specs.source_blocks.declared.frames.Frame.{Frame}
 use Rattle.source_checks.specs.source_blocks.declared.run.Run.{Run}
-use Rattle.source_checks.specs.source_blocks.Blocks.{count_of}
+use Rattle.source_checks.specs.source_blocks.Blocks.{statement_count}
 use Rattle.source_checks.specs.source_blocks.Tasks.{task_of}
 use Rattle.source_checks.specs.source_blocks.Opens.{open_of}
 use Rattle.source_checks.specs.source_blocks.Runs.{config_of}
@@ -59,7 +59,7 @@ heap_is (Ok heap) order program table main vars words same zeros after e f g h i
 
 -- ---- the end
 
-pub over_is : (run : Run) → run.frames.items ≡ [] → count_of (task_of run.task) ≤ run.at → IsOver (config_of run)
+pub over_is : (run : Run) → run.frames.items ≡ [] → statement_count (task_of run.task) ≤ run.at → IsOver (config_of run)
 over_is run f h = record {
   rest = rest_end run.at (task_of run.task) h;
   around = ap (λ (frames : List Frame). map open_of (reverse frames)) f;
@@ -68,7 +68,7 @@ over_is run f h = record {
 some_left : (body rest : Statements) (s : Statement) → body ≡ Then s rest → body ≡ End → ⊥
 some_left body rest s e f = let no : Then s rest ≡ End = sym e ∙ f in cc
 
-pub not_past : (run : Run) → run.at < count_of (task_of run.task) → IsOver (config_of run) → ⊥
+pub not_past : (run : Run) → run.at < statement_count (task_of run.task) → IsOver (config_of run) → ⊥
 not_past run h over = some_left _ _ _ (rest_here run.at (task_of run.task) h) over.rest
 
 -- ---- whether a run is over
@@ -80,10 +80,10 @@ no_items (frame ∷ frames) e = absurd (omega arith)
 untrue : IsTrue false → ⊥
 untrue t = cc
 
-pub alone_is_over : (run : Run) → length run.frames.items ≡ 0 → count_of (task_of run.task) ≤ run.at
+pub alone_is_over : (run : Run) → length run.frames.items ≡ 0 → statement_count (task_of run.task) ≤ run.at
     → (IsTrue true → IsOver (config_of run)) × (IsOver (config_of run) → IsTrue true)
 alone_is_over run none past = (λ t. over_is run (no_items run.frames.items none) past, λ o. refl)
 
-pub not_yet_over : (run : Run) → run.at < count_of (task_of run.task)
+pub not_yet_over : (run : Run) → run.at < statement_count (task_of run.task)
     → (IsTrue false → IsOver (config_of run)) × (IsOver (config_of run) → IsTrue false)
 not_yet_over run within = (λ t. absurd (untrue t), λ o. absurd (not_past run within o))

@@ -4,7 +4,7 @@ use Rattle.std.proofs.lemmas.Bool.{leb-true}
 use Rattle.std.specs.Prelude.{nat_le}
 use Rattle.source_checks.specs.roopl_semantics.Run.{Run, Done, Fault, More}
 use Rattle.source_checks.specs.roopl_semantics.Source.{within}
-use Rattle.source_checks.specs.source_steps.Metered.{Went, Stopped, went, stopped, metered}
+use Rattle.source_checks.specs.source_steps.Metered.{Went, Stopped, went, stopped_metered, metered}
 
 by_done : {A : Type 0} (t : Bool) (fuel cost : ℕ) (x end : A) (left : ℕ) → (t ≡ true → cost ≤ fuel)
     → went x (if t then Some (fuel - cost) else None) ≡ Went end left
@@ -18,7 +18,7 @@ by_done true fuel cost x end left h e =
 by_done false fuel cost x end left h e = cc
 
 by_fault : {A : Type 0} (t : Bool) (fuel cost x code left : ℕ) → (t ≡ true → cost ≤ fuel)
-    → stopped {A = A} x (if t then Some (fuel - cost) else None) ≡ Stopped code left
+    → stopped_metered {A = A} x (if t then Some (fuel - cost) else None) ≡ Stopped code left
     → if◌then◌else◌ {A = Run A} t (Fault x cost) More ≡ Fault code (fuel - left)
 by_fault true fuel cost x code left h e =
     let l : cost ≤ fuel = h refl in
@@ -34,7 +34,7 @@ no_fault true fuel cost x code left e = cc
 no_fault false fuel cost x code left e = cc
 
 no_end : {A : Type 0} (t : Bool) (fuel cost code : ℕ) (end : A) (left : ℕ)
-    → stopped code (if t then Some (fuel - cost) else None) ≡ Went end left → ⊥
+    → stopped_metered code (if t then Some (fuel - cost) else None) ≡ Went end left → ⊥
 no_end true fuel cost code end left e = cc
 no_end false fuel cost code end left e = cc
 

@@ -4,7 +4,7 @@ use Rattle.std.specs.Prelude.{if◌then◌else◌, Option, Some, None}
 use Rattle.rpp_tree.specs.Tree.{Statement, Call}
 use Rattle.rpp_tree.specs.Places.{statement_place}
 use Rattle.source_checks.specs.roopl_semantics.Store.{Binding}
-use Rattle.source_checks.specs.meaning_machine.Machine.{Caller, Config, Open, Part, Calling}
+use Rattle.source_checks.specs.meaning_machine.Machine.{Caller, Config, Open, OpenPart, Calling}
 use Rattle.source_execution.specs.Standing.{next_place}
 
 -- an active call: the offset of the statement of it that runs, if one does, its object, how many
@@ -21,7 +21,7 @@ is_back (Call at back receiver method args) = back
 is_back s = false
 
 -- the call whose statement is open, if it is a call that is active in this direction
-abbrev pub caller_in : (here : Statement) → (back : Bool) → Part → List Active
+abbrev pub caller_in : (here : Statement) → (back : Bool) → OpenPart → List Active
 caller_in here back (Calling caller receiver args held) = record {
   place = Some (statement_place here);
   object = caller.self;
@@ -31,7 +31,7 @@ caller_in here back (Calling caller receiver args held) = record {
 caller_in here back part = []
 
 -- the direction inside an open statement that runs in this direction
-abbrev pub back_inside : (here : Statement) → (back : Bool) → Part → Bool
+abbrev pub back_inside : (here : Statement) → (back : Bool) → OpenPart → Bool
 back_inside here back (Calling caller receiver args held) = is_back here
 back_inside here back part = back
 
@@ -67,7 +67,7 @@ abbrev pub inside_innermost : Config → CallState
 inside_innermost x = record { self = x.state.self; params = x.params; frame = x.state.frame }
 
 -- that of a call that is active as this many are, if the open statement is such a call
-abbrev pub inside_part : ℕ → Part → Option CallState
+abbrev pub inside_part : ℕ → OpenPart → Option CallState
 inside_part depth (Calling caller receiver args held) =
     if nat_eq caller.depth depth then Some (inside_caller caller) else None
 inside_part depth part = None

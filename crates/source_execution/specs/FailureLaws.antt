@@ -9,7 +9,7 @@ use Rattle.source_checks.specs.roopl_semantics.Store.{Value, number_of}
 use Rattle.source_checks.specs.roopl_semantics.Value.{NIL, INDEX}
 use Rattle.source_checks.specs.roopl_semantics.Source.{source}
 use Rattle.source_checks.specs.meaning_machine.Machine.{Config, next}
-use Rattle.source_checks.specs.meaning_machine.SourceLaws.{set_for, start_of}
+use Rattle.source_checks.specs.meaning_machine.SourceLaws.{set_for, start_config}
 use Rattle.source_checks.specs.source_compared.Comparisons.{Compared, Below, Missing, Nothing}
 use Rattle.source_checks.specs.Failures.{failing}
 
@@ -21,18 +21,18 @@ pub record Means (program : Program) (limits : Limits) (input : List FieldWord) 
   pub fault : source program limits input fuel ≡ Fault code cost
 
 -- a step stops with this fault
-pub record Fails (program : Program) (limits : Limits) (input : List FieldWord) (code : ℕ)
+pub record StopsWithFault (program : Program) (limits : Limits) (input : List FieldWord) (code : ℕ)
     : Type 0 where
   pub n : ℕ
   pub here : Config
   pub spent : ℕ
-  pub first : failing (set_for program limits) n (start_of program input) ≡ Some here
+  pub first : failing (set_for program limits) n (start_config program input) ≡ Some here
   pub stops : next (set_for program limits) here ≡ Fault code spent
 
 pub record FailsAsMeant (program : Program) (limits : Limits) (input : List FieldWord) (code : ℕ)
     : Type 0 where
-  pub only : Fails program limits input code → Means program limits input code
-  pub always : Means program limits input code → Fails program limits input code
+  pub only : StopsWithFault program limits input code → Means program limits input code
+  pub always : Means program limits input code → StopsWithFault program limits input code
 
 -- what an evaluation that stops with this fault compares: an index that is not below the length of
 -- the array, or an array that is nil

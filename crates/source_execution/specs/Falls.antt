@@ -6,7 +6,7 @@ use Rattle.source_checks.specs.rpp_words.declared.input.Limits.{Limits}
 use Rattle.rpp_tree.specs.Tree.{Source}
 use Rattle.source_checks.specs.roopl_semantics.Run.{Fault}
 use Rattle.source_checks.specs.meaning_machine.Machine.{Config, next}
-use Rattle.source_checks.specs.meaning_machine.SourceLaws.{set_for, start_of}
+use Rattle.source_checks.specs.meaning_machine.SourceLaws.{set_for, start_config}
 use Rattle.source_execution.specs.declared.falling.Failing.{Failing}
 use Rattle.source_checks.specs.Failures.{MOST_STEPS, failing}
 use Rattle.source_execution.specs.Standing.{config_at, setting_at}
@@ -14,7 +14,7 @@ use Rattle.source_execution.specs.Standing.{config_at, setting_at}
 -- the position from which a step of a program's run stops with a fault, if one does
 abbrev pub failing_of : Source → Limits → List FieldWord → Option Config
 failing_of program limits input =
-    failing (set_for program limits) MOST_STEPS (start_of program input)
+    failing (set_for program limits) MOST_STEPS (start_config program input)
 
 -- the run where its next step stops with this fault
 pub record IsFailing (program : Source) (limits : Limits) (input : List FieldWord) (it : Failing)

@@ -9,22 +9,22 @@ use Rattle.source_checks.specs.roopl_semantics.Execution.{Setting}
 use Rattle.source_checks.specs.meaning_machine.Machine.{Config, walk}
 use Rattle.source_checks.specs.source_store.HeapView.{Kept}
 use Rattle.source_checks.specs.source_steps.declared.stop.Stop.{Stop}
-use Rattle.source_checks.specs.source_steps.Metered.{metered, Gives}
+use Rattle.source_checks.specs.source_steps.Metered.{metered, MeteredGives}
 use Rattle.source_checks.specs.source_steps.StateView.{setting_of}
 use Rattle.source_checks.specs.source_blocks.declared.run.Run.{Run}
 use Rattle.source_checks.specs.source_blocks.Runs.{config_of}
 
 -- the position of a run, and whether it is aborted
-pub record Standing : Type 0 where
+pub record ExecutionStanding : Type 0 where
   pub run : Run
   pub broken : Bool
 
 -- its program with the limits
-abbrev pub setting_at : Standing → Setting
+abbrev pub setting_at : ExecutionStanding → Setting
 setting_at here = setting_of here.run.setting
 
 -- its position, as the machine sees it
-abbrev pub config_at : Standing → Config
+abbrev pub config_at : ExecutionStanding → Config
 config_at here = config_of here.run
 
 -- the run is over
@@ -33,10 +33,10 @@ pub record IsOver (x : Config) : Type 0 where
   pub around : x.around ≡ []
 
 -- some number of steps from here gives this with so much fuel
-pub record Walks {E : Type 0} (from to : Standing) (fuel : ℕ) (result : Result E Stop)
+pub record Walks {E : Type 0} (from to : ExecutionStanding) (fuel : ℕ) (result : Result E Stop)
     (left : ℕ) : Type 0 where
   pub steps : ℕ
-  pub gives : Gives (λ (e : E). config_at to) result left
+  pub gives : MeteredGives (λ (e : E). config_at to) result left
       (metered fuel (walk (setting_at from) steps (config_at from)))
 
 -- the heap of a run before its first step

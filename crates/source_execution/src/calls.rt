@@ -2,7 +2,7 @@
 ghost use Rattle.std.specs.Prelude.{◌≡◌, ◌++◌, map, option_map, IfOk};
 ghost use Rattle.rpp_tree.specs.Views.{statement_of};
 ghost use Rattle.source_checks.specs.source_steps.Ends.{turned};
-ghost use Rattle.source_checks.specs.source_blocks.Tasks.{line_of};
+ghost use Rattle.source_checks.specs.source_blocks.Tasks.{statement_line};
 ghost use Rattle.source_checks.specs.source_blocks.Opens.{open_of, caller_of, IsOpen};
 ghost use Rattle.source_checks.specs.source_blocks.Runs.{IsSound, config_of};
 ghost use Rattle.source_execution.specs.Calls.{is_back, caller_in, back_inside, innermost_call, active_calls, inside_caller as inside_caller_of, inside_part, inside_last as inside_last_of, inside_call};
@@ -56,7 +56,7 @@ fn calls_back(stmt: &Stmt, back: bool) -> bool
 
 // The same of a statement that runs.
 fn line_calls_back(line: &Line) -> bool
-    ensures { result ≡ is_back (line_of line.now) }
+    ensures { result ≡ is_back (statement_line line.now) }
 {
     match line {
         Line::Text { stmt, back } => calls_back(stmt, *back),

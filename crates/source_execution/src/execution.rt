@@ -6,10 +6,10 @@ ghost use Rattle.source_checks.specs.roopl_semantics.Store.{Word};
 ghost use Rattle.source_checks.specs.roopl_semantics.Source.{with_input, main_body};
 ghost use Rattle.source_checks.specs.meaning_machine.Machine.{next};
 ghost use Rattle.source_checks.specs.meaning_machine.Turned.{turn as turned_round};
-ghost use Rattle.source_checks.specs.meaning_machine.SourceLaws.{set_for, start_of};
+ghost use Rattle.source_checks.specs.meaning_machine.SourceLaws.{set_for, start_config};
 ghost use Rattle.source_checks.specs.meaning_machine.Reversed.{back as next_back};
 ghost use Rattle.source_checks.specs.source_store.ValueView.{values_of};
-ghost use Rattle.source_checks.specs.source_steps.Metered.{Gives, metered, IsFault, OnFault};
+ghost use Rattle.source_checks.specs.source_steps.Metered.{MeteredGives, metered, IsFault, OnFault};
 ghost use Rattle.source_checks.specs.source_blocks.Tasks.{task_of};
 ghost use Rattle.source_statements.specs.Steps.{StepFalls, step_in, MayStopAt};
 ghost use Rattle.source_execution.specs.Variables.{binding_of};
@@ -102,10 +102,10 @@ impl<'a> Model for Execution<'a> {
     ghost use Rattle.rpp_tree.specs.contracts.tree.Expr as expr;
     ghost use Rattle.std.specs.Coded.{codes};
     ghost use Rattle.std.specs.Prelude.{◌≡◌, false};
-    ghost use Rattle.source_execution.specs.Standing.{Standing};
+    ghost use Rattle.source_execution.specs.Standing.{ExecutionStanding};
     ghost use Rattle.source_checks.specs.source_blocks.Runs.{IsSound};
 
-    ghost Value = { Standing };
+    ghost Value = { ExecutionStanding };
 
     ghost coded = { Prim.hlevel (codes, stmt.the_row.coded, expr.the_row.coded) };
 
@@ -126,7 +126,7 @@ impl<'a> Execution<'a> {
         ensures setting { IfOk result (λ execution. setting_at execution
             ≡ set_for (source_of checked.now) limits) }
         ensures start { IfOk result (λ execution. config_at execution
-            ≡ start_of (source_of checked.now) input.now.words.items) }
+            ≡ start_config (source_of checked.now) input.now.words.items) }
         ensures whole { IfOk result (λ execution. execution.broken ≡ false) }
     {
         let heap = first_heap(alloc, checked, limits, input)?;
@@ -170,7 +170,7 @@ impl<'a> Execution<'a> {
     #[inline(always)]
     pub fn step(&mut self, fuel: &mut u64) -> Result<(), Stop>
         requires whole { self.old.broken ≡ false }
-        ensures gives { Gives (λ u. config_at self.new) result fuel.new
+        ensures gives { MeteredGives (λ u. config_at self.new) result fuel.new
             (metered fuel.old (next (setting_at self.old) (config_at self.old))) }
         ensures whole { OnOk result (self.new.broken ≡ false) }
         ensures setting { setting_at self.new ≡ setting_at self.old }
@@ -189,7 +189,7 @@ impl<'a> Execution<'a> {
     /// requests to the heap. What aborts a step aborts it, and a fault leaves it where it was.
     pub fn step_back(&mut self, fuel: &mut u64) -> Result<(), Stop>
         requires whole { self.old.broken ≡ false }
-        ensures gives { Gives (λ u. config_at self.new) result fuel.new
+        ensures gives { MeteredGives (λ u. config_at self.new) result fuel.new
             (metered fuel.old (next_back (setting_at self.old) (config_at self.old))) }
         ensures whole { OnOk result (self.new.broken ≡ false) }
         ensures setting { setting_at self.new ≡ setting_at self.old }
@@ -208,7 +208,7 @@ impl<'a> Execution<'a> {
     #[inline(always)]
     fn go(&mut self, fuel: &mut u64, back: bool) -> Result<(), Stop>
         requires whole { self.old.broken ≡ false }
-        ensures gives { Gives (λ u. config_at self.new) result fuel.new
+        ensures gives { MeteredGives (λ u. config_at self.new) result fuel.new
             (metered fuel.old (step_in back (setting_at self.old) (config_at self.old))) }
         ensures whole { OnOk result (self.new.broken ≡ false) }
         ensures setting { setting_at self.new ≡ setting_at self.old }

@@ -6,7 +6,7 @@ ghost use Rattle.rpp_tree.specs.Views.{source_of};
 ghost use Rattle.source_steps.specs.class_rules.Members.{class_at};
 ghost use Rattle.source_steps.specs.roopl_semantics.Store.{object_named};
 ghost use Rattle.source_steps.specs.roopl_semantics.Report.{head_shown};
-ghost use Rattle.source_steps.specs.source_store.ValueView.{values_of, head_of, object_of};
+ghost use Rattle.source_steps.specs.source_store.ValueView.{values_of, kept_head, object_of};
 ghost use Rattle.source_lines.specs.Named.{cells_named, object_lines, objects_from};
 
 use crate::values::{add_bytes, add_class_fields, add_elements};
@@ -18,7 +18,7 @@ use std::alloc::Global;
 // The lines of the cells of an object or array.
 fn add_cells(out: &mut String, checked: &Checked, head: Head, values: &[Value]) -> Result<(), Lack>
     ensures { OnOk result (string_bytes out.new
-        ≡ string_bytes out.old ++ cells_named (source_of checked.now) (head_of head)
+        ≡ string_bytes out.old ++ cells_named (source_of checked.now) (kept_head head)
         (values_of values.now)) }
 {
     match head {
@@ -41,7 +41,7 @@ fn class_name(program: &Program, class: u32) -> &[u8]
 /// What an object is.
 pub fn add_head(out: &mut String, program: &Program, head: Head) -> Result<(), Lack>
     ensures { OnOk result (string_bytes out.new
-        ≡ string_bytes out.old ++ head_shown (source_of program.now) (head_of head)) }
+        ≡ string_bytes out.old ++ head_shown (source_of program.now) (kept_head head)) }
 {
     match head {
         Head::Class(class) => add_bytes(out, class_name(program, class)),
@@ -63,7 +63,7 @@ fn add_first(
 ) -> Result<(), Lack>
     ensures { OnOk result (string_bytes out.new
         ≡ string_bytes out.old ++ (codes "#" ++ decimal name ++ codes " "
-        ++ head_shown (source_of checked.now) (head_of head) ++ codes " count " ++ decimal count
+        ++ head_shown (source_of checked.now) (kept_head head) ++ codes " count " ++ decimal count
         ++ line_end)) }
 {
     let program = checked.program();

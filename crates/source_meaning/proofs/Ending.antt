@@ -15,15 +15,15 @@ use Rattle.source_execution.specs.roopl_semantics.Execution.{Setting}
 use Rattle.source_execution.specs.roopl_semantics.Laws.{CountsReferences}
 use Rattle.source_execution.proofs.roopl_semantics_laws.MoreFuel.{source_done, source_fault, within_done, within_fault}
 use Rattle.source_execution.specs.meaning_machine.Machine.{Config, walk}
-use Rattle.source_execution.specs.meaning_machine.SourceLaws.{set_for, start_of, Exceeds}
+use Rattle.source_execution.specs.meaning_machine.SourceLaws.{set_for, start_config, Exceeds}
 use Rattle.source_execution.proofs.meaning_machine_laws.Sources.{joined}
 use Rattle.meaning_inverse.proofs.meaning_sound_laws.Stated.{counts_are_held}
 use Rattle.meaning_inverse.proofs.Law.{leads_back}
 use Rattle.source_execution.specs.source_steps.declared.stop.Stop.{Stop}
 use Rattle.source_execution.specs.source_steps.declared.stop.Stop.TheVariants as stop
-use Rattle.source_execution.specs.source_steps.Metered.{Went, Stopped, Out, went, stopped, metered, left_of, Failed}
+use Rattle.source_execution.specs.source_steps.Metered.{Went, Stopped, Out, went, stopped_metered, metered, left_of, Failed}
 use Rattle.source_execution.proofs.Within.{ends_done, ends_fault}
-use Rattle.source_execution.specs.Standing.{Standing, IsOver, Walks, config_at, setting_at}
+use Rattle.source_execution.specs.Standing.{ExecutionStanding, IsOver, Walks, config_at, setting_at}
 use Rattle.source_meaning.specs.declared.outcome.Outcome.{Outcome}
 use Rattle.source_meaning.specs.declared.outcome.Outcome.TheVariants as outcome
 use Rattle.source_meaning.specs.Outcomes.{EndsWith, IsOutcome, IsStop, StaysSo, IsUndone}
@@ -35,17 +35,17 @@ out_went fuel cost x e = by (nat_le cost fuel) refl e
     by true q e = cc
     by false q e = leb-false cost fuel q
 
-out_stopped : {A : Type 0} (fuel cost code : ℕ) → stopped {A = A} code (left_of fuel cost) ≡ Out → fuel < cost
+out_stopped : {A : Type 0} (fuel cost code : ℕ) → stopped_metered {A = A} code (left_of fuel cost) ≡ Out → fuel < cost
 out_stopped {A = A} fuel cost code e = by (nat_le cost fuel) refl e
   where
-    by : (t : Bool) → nat_le cost fuel ≡ t → stopped {A = A} code (if t then Some (fuel - cost) else None) ≡ Out
+    by : (t : Bool) → nat_le cost fuel ≡ t → stopped_metered {A = A} code (if t then Some (fuel - cost) else None) ≡ Out
         → fuel < cost
     by true q e = cc
     by false q e = leb-false cost fuel q
 
 module _ (program : Source) (limits : Limits) (input : List FieldWord) (fuel left steps : ℕ) where
   abbrev walked : Run Config
-  walked = walk (set_for program limits) steps (start_of program input)
+  walked = walk (set_for program limits) steps (start_config program input)
 
   walked_done : (to : Config) → metered fuel walked ≡ Went to left → IsOver to
       → source program limits input fuel ≡ Done to.state (fuel - left)
@@ -73,8 +73,8 @@ module _ (program : Source) (limits : Limits) (input : List FieldWord) (fuel lef
           })
       by More is out = (joined program limits input fuel).not_over steps is
 
-module _ (program : Source) (limits : Limits) (input : List FieldWord) (fuel left : ℕ) (first now : Standing)
-    (setting : setting_at first ≡ set_for program limits) (start : config_at first ≡ start_of program input) where
+module _ (program : Source) (limits : Limits) (input : List FieldWord) (fuel left : ℕ) (first now : ExecutionStanding)
+    (setting : setting_at first ≡ set_for program limits) (start : config_at first ≡ start_config program input) where
   -- if the run is over
   module _ {E : Type 0} (e : E) (walks : Walks first now fuel (Ok e) left) (over : IsOver (config_at now))
       (store : Store) (same : store ≡ (config_at now).state.store) where
@@ -100,7 +100,7 @@ module _ (program : Source) (limits : Limits) (input : List FieldWord) (fuel lef
       walks.gives)) is
     where
       by : (k : Stop) → Failed k left (metered fuel (walk (set_for program limits) walks.steps
-          (start_of program input))) → IsStop k (fuel - left) o → IsOutcome o (source program limits input fuel)
+          (start_config program input))) → IsStop k (fuel - left) o → IsOutcome o (source program limits input fuel)
       by (stop.Fault code) e is = subst (λ o. IsOutcome o (source program limits input fuel)) (sym is)
           (walked_fault program limits input fuel left walks.steps code e)
       by stop.More e is = subst (λ o. IsOutcome o (source program limits input fuel)) (sym is)

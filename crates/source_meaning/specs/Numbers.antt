@@ -2,7 +2,7 @@
 use Rattle.std.specs.Prelude.{◌≡◌, ℕ, List, map, Option, None, slice_get}
 use Rattle.std.specs.Option.{unwrap_or, option_map}
 use Rattle.source_execution.specs.roopl_semantics.Store.{Head, Object, number_of, object_named}
-use Rattle.source_execution.specs.source_store.ValueView.{head_of}
+use Rattle.source_execution.specs.source_store.ValueView.{kept_head}
 use Rattle.source_execution.specs.source_store.HeapView.{Kept}
 use Rattle.source_meaning.specs.declared.store.Object.{Object as Seen}
 
@@ -21,7 +21,7 @@ numbers_of object = record {
 
 abbrev pub seen_object : Seen → Numbers
 seen_object object = record {
-  head = head_of object.head;
+  head = kept_head object.head;
   count = object.count;
   cells = object.cells.items;
 }

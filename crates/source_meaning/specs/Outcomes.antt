@@ -8,7 +8,7 @@ use Rattle.source_execution.specs.roopl_semantics.Store.{State, Store}
 use Rattle.source_execution.specs.roopl_semantics.Source.{main_body, starting, source}
 use Rattle.source_execution.specs.source_steps.declared.stop.Stop.{Stop}
 use Rattle.source_execution.specs.source_steps.declared.stop.Stop.TheVariants as stop
-use Rattle.meaning_inverse.specs.InverseLaws.{LeadsBack}
+use Rattle.meaning_inverse.specs.InverseLaws.{InverseLeadsBack}
 use Rattle.source_meaning.specs.declared.outcome.Outcome.{Outcome}
 use Rattle.source_meaning.specs.declared.outcome.Outcome.TheVariants as outcome
 
@@ -41,7 +41,7 @@ StaysSo over program limits input fuel =
 pub record ComesBack (program : Source) (limits : Limits) (input : List FieldWord) (fuel : ℕ)
     (store : Store) (cost : ℕ) : Type 0 where
   pub end : EndsWith (source program limits input fuel) store cost
-  pub leads : LeadsBack (record { program = program; limits = limits }) (main_body program)
+  pub leads : InverseLeadsBack (record { program = program; limits = limits }) (main_body program)
       (starting program input) end.end cost
 
 -- if the run is done, its inverse undoes it

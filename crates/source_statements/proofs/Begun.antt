@@ -15,7 +15,7 @@ use Rattle.source_blocks.specs.source_steps.StateView.{setting_of}
 use Rattle.source_blocks.specs.declared.run.Run.{Run}
 use Rattle.source_blocks.specs.Runs.{IsSimple, config_of, state_in, here_in, rest_in}
 use Rattle.source_blocks.specs.source_steps.declared.stop.Stop.{Stop}
-use Rattle.source_blocks.specs.source_steps.Metered.{Went, metered, Failed, Gives}
+use Rattle.source_blocks.specs.source_steps.Metered.{Went, metered, Failed, MeteredGives}
 use Rattle.source_blocks.proofs.source_steps_laws.Fuelled.{goes, fails, gives}
 use Rattle.source_blocks.specs.source_steps.declared.stop.Stop.TheVariants as stop
 use Rattle.source_blocks.specs.source_store.declared.lack.Lack.TheVariants as lacking
@@ -23,16 +23,16 @@ use Rattle.source_blocks.specs.source_store.declared.lack.Lack.TheVariants as la
 -- a call whose only error is `NoMemory` leads to what is given
 pub given_as : {E : Type 0} (result : Result E Stop) (left : ℕ) (x y : Config)
     → MatchResult result (λ u. x ≡ y) (λ why. why ≡ stop.Lacks lacking.NoMemory)
-    → Gives (λ (e : E). x) result left (metered left (give y))
+    → MeteredGives (λ (e : E). x) result left (metered left (give y))
 given_as (Ok e) left x y m = gives left y ∙ ap (λ z. Went z left) (sym m)
 given_as (Err why) left x y m = subst (λ w. Failed w left (metered left (give y))) (sym m) tt
 
 -- goes on after a part that went well
 pub through : {A B E : Type 0} (f : E → B) (result : Result E Stop) (fuel g left : ℕ) (run : Run' A) (a : A)
-    (next : A → Run' B) → metered fuel run ≡ Went a g → Gives f result left (metered g (next a))
-    → Gives f result left (metered fuel (run >>= next))
+    (next : A → Run' B) → metered fuel run ≡ Went a g → MeteredGives f result left (metered g (next a))
+    → MeteredGives f result left (metered fuel (run >>= next))
 through f result fuel g left run a next e k =
-    subst (λ m. Gives f result left m) (sym (goes fuel g run a next e)) k
+    subst (λ m. MeteredGives f result left m) (sym (goes fuel g run a next e)) k
 
 module _ (setting : Setting) (x : Config) (s : Statement) (rest : Statements) (fuel : ℕ) where
   -- a choice
@@ -56,11 +56,11 @@ module _ (setting : Setting) (x : Config) (s : Statement) (rest : Statements) (f
           → metered fuel (evaluated setting.program test x.state) ≡ Went v g → side ≡ holds v
           → MatchResult result (λ u. y ≡ inside x s rest (Chosen side test after)
           (if side then taken else other) x.state) (λ why. why ≡ stop.Lacks lacking.NoMemory)
-          → Gives (λ (e : E). y) result g (metered fuel (begun setting x s rest))
+          → MeteredGives (λ (e : E). y) result g (metered fuel (begun setting x s rest))
       choice_goes {E = E} result g v side y e which m =
           let opens : Bool → Type 0 = λ b. MatchResult result (λ (u : E). y ≡ inside x s rest (Chosen b test after)
           (if b then taken else other) x.state) (λ why. why ≡ stop.Lacks lacking.NoMemory) in
-          subst (λ r. Gives (λ e. y) result g (metered fuel r)) (sym choice_is)
+          subst (λ r. MeteredGives (λ e. y) result g (metered fuel r)) (sym choice_is)
           (through (λ e. y) result fuel g g (evaluated setting.program test x.state) v _ e
           (given_as result g y _ (subst opens which m)))
 
@@ -98,8 +98,8 @@ module _ (setting : Setting) (x : Config) (s : Statement) (rest : Statements) (f
         → metered g (fault_if LOOP t) ≡ Went tt left
         → MatchResult result (λ u. y ≡ inside x s rest (First entry first again exit) first x.state)
         (λ why. why ≡ stop.Lacks lacking.NoMemory)
-        → Gives (λ (e : E). y) result left (metered fuel (begun setting x s rest))
-    loop_goes result g left v t y e is f m = subst (λ r. Gives (λ e. y) result left (metered fuel r)) (sym loop_is)
+        → MeteredGives (λ (e : E). y) result left (metered fuel (begun setting x s rest))
+    loop_goes result g left v t y e is f m = subst (λ r. MeteredGives (λ e. y) result left (metered fuel r)) (sym loop_is)
         (through (λ e. y) result fuel g left (evaluated setting.program entry x.state) v (after_entry s) e
         (through (λ e. y) result g left left (fault_if LOOP (not (holds v))) tt _
         (ap (λ b. metered g (fault_if LOOP b)) (sym is) ∙ f) (given_as result left y _ m)))
@@ -115,7 +115,7 @@ module _ (setting : Setting) (x : Config) (s : Statement) (rest : Statements) (f
         → metered fuel (evaluated setting.program value x.state) ≡ Went v g
         → MatchResult result (λ u. y ≡ inside x s rest (Holding name value end_value) body (opened name v x.state))
         (λ why. why ≡ stop.Lacks lacking.NoMemory)
-        → Gives (λ (e : E). y) result g (metered fuel (held_local setting x s rest name value body end_value))
+        → MeteredGives (λ (e : E). y) result g (metered fuel (held_local setting x s rest name value body end_value))
     local_goes result g v y e m =
         through (λ e. y) result fuel g g (evaluated setting.program value x.state) v _ e (given_as result g y _ m)
 
@@ -145,8 +145,8 @@ module _ (setting : Setting) (x : Config) (s : Statement) (rest : Statements) wh
 
 -- what gives one run gives an equal one
 pub same_gives : {A E : Type 0} (f : E → A) (result : Result E Stop) (left fuel : ℕ) (r r' : Run' A) → r ≡ r'
-    → Gives f result left (metered fuel r) → Gives f result left (metered fuel r')
-same_gives f result left fuel r r' e g = subst (λ q. Gives f result left (metered fuel q)) e g
+    → MeteredGives f result left (metered fuel r) → MeteredGives f result left (metered fuel r')
+same_gives f result left fuel r r' e g = subst (λ q. MeteredGives f result left (metered fuel q)) e g
 
 -- ---- statements that hold no block, and are no calls
 

@@ -9,14 +9,14 @@ use Rattle.rpp_tree.specs.Tree.{Statements, End, Procedure}
 use Rattle.source_blocks.specs.roopl_semantics.Store.{State, Value, Binding}
 use Rattle.source_blocks.specs.roopl_semantics.Value.{Cell, read}
 use Rattle.source_blocks.specs.roopl_semantics.Execution.{bound, moved_out, in_direction}
-use Rattle.source_blocks.specs.meaning_machine.Machine.{Config, Part as Runs, Calling, inside, entered}
+use Rattle.source_blocks.specs.meaning_machine.Machine.{Config, OpenPart as Runs, Calling, inside, entered}
 use Rattle.source_blocks.specs.meaning_machine.Machine.{Caller as From}
 use Rattle.source_blocks.specs.source_store.declared.value.Value.{Value as Held}
 use Rattle.source_blocks.specs.source_store.ValueView.{value_of, values_of}
 use Rattle.source_blocks.specs.source_steps.declared.stop.Stop.{Stop}
 use Rattle.source_blocks.specs.source_steps.declared.stop.Stop.TheVariants as stop
 use Rattle.source_blocks.specs.source_store.declared.lack.Lack.TheVariants as lacking
-use Rattle.source_blocks.specs.source_steps.CellView.{cell_of}
+use Rattle.source_blocks.specs.source_steps.CellView.{cell_view}
 use Rattle.source_blocks.specs.source_steps.Marks.{with_marks, AreMarked}
 use Rattle.source_blocks.proofs.source_steps_laws.Marked.{params_marked}
 use Rattle.source_blocks.specs.source_steps.StateView.{bindings, setting_of}
@@ -24,7 +24,7 @@ use Rattle.source_blocks.proofs.source_steps_laws.Moves.{bound_cut}
 use Rattle.source_blocks.specs.declared.frames.Caller.{Caller}
 use Rattle.source_blocks.specs.declared.frames.Part.TheVariants as runs
 use Rattle.source_blocks.specs.declared.run.Run.{Run}
-use Rattle.source_blocks.specs.Blocks.{count_of}
+use Rattle.source_blocks.specs.Blocks.{statement_count}
 use Rattle.source_blocks.specs.Tasks.{task_of}
 use Rattle.source_blocks.specs.Opens.{caller_of, cells_in, values_in, part_of, IsOpen}
 use Rattle.source_blocks.specs.Runs.{IsSound, names_in, config_of, state_in, here_in, rest_in}
@@ -158,7 +158,7 @@ module _ (run mid callee : Run) (same : mid ≡ record run { heap = mid.heap; va
           (map (λ own. own.now) locals ++ map (λ var. var.name.text) callee.params.now)) (sym bare)
           (params_marked 0 callee.params.now));
       opens = subst (λ (r : Run). All IsOpen r.frames.items) (sym call) s.opens;
-      within = subst (λ (r : Run). r.at ≤ count_of (task_of r.task)) (sym call) s.within;
+      within = subst (λ (r : Run). r.at ≤ statement_count (task_of r.task)) (sym call) s.within;
     }
 
     -- the whole of it
@@ -172,7 +172,7 @@ module _ (run mid callee : Run) (same : mid ≡ record run { heap = mid.heap; va
           params = length mid.params.now;
         }) (receiver : cells_in caller.receiver ≡ cell)
         (given : values_in caller.receiver ≡ map (read (state_in run)) cell)
-        (cells : map cell_of caller.args.items ≡ args) where
+        (cells : map cell_view caller.args.items ≡ args) where
       pub entered_by : (y : Config) (body : Statements)
           → y ≡ opens_at callee (part_of (runs.Calling caller)) body (state_in callee)
           → body ≡ in_direction back method.body

@@ -10,7 +10,7 @@ use Rattle.std.specs.Str.{bytes_eq}
 use Rattle.rpp_tree.specs.Tree.{Procedure, Source}
 use Rattle.source_blocks.specs.class_rules.declared.method.MethodId.{MethodId}
 use Rattle.source_blocks.specs.class_rules.Table.{Table, table_of, slots_in, slot_in, dispatch_in}
-use Rattle.source_blocks.specs.class_rules.Rules.{class_names}
+use Rattle.source_blocks.specs.class_rules.Rules.{all_class_names}
 use Rattle.source_blocks.specs.class_rules.Chains.{parents, parent_named, chain, with_last}
 use Rattle.source_blocks.specs.class_rules.Members.{class_at, no_class, no_procedure, slots, slots_along, with_methods}
 use Rattle.source_blocks.specs.class_rules.Overrides.{run_at}
@@ -41,7 +41,7 @@ slots_read program class = by (nat_lt class (length program.classes)) refl
         in omega arith) in
         let alone : slice_get (parents program) class ≡ None =
         slice_get_past (parents program) class (let l = length-map program.classes
-        (λ class. parent_named (class_names program) class.parent) in omega arith) in
+        (λ class. parent_named (all_class_names program) class.parent) in omega arith) in
         ap (λ o. unwrap_or o []) none ∙ sym (chain_slots (length program.classes) program class alone
         (slice_get_past program.classes class past))
 

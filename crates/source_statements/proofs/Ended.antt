@@ -7,7 +7,7 @@ use Rattle.source_blocks.specs.roopl_semantics.Run.{Run, ◌>>=◌, give, fault_
 use Rattle.source_blocks.specs.roopl_semantics.Store.{Value, State, same_value}
 use Rattle.source_blocks.specs.roopl_semantics.Value.{Cell, Slot, evaluated, read}
 use Rattle.source_blocks.specs.roopl_semantics.Execution.{Setting, holds, FI, LOOP, DELOCAL, closed, moved_back}
-use Rattle.source_blocks.specs.meaning_machine.Machine.{Config, Part, Chosen, First, Again, Holding, Calling, closing}
+use Rattle.source_blocks.specs.meaning_machine.Machine.{Config, OpenPart, Chosen, First, Again, Holding, Calling, closing}
 use Rattle.source_blocks.specs.meaning_machine.Machine.{ended, left, Caller as From, turned_to, turned_first}
 use Rattle.source_blocks.specs.source_steps.declared.stop.Stop.{Stop}
 use Rattle.source_blocks.specs.source_steps.Metered.{Went, metered, Failed}
@@ -18,12 +18,12 @@ use Rattle.source_blocks.specs.Opens.{HasPart}
 use Rattle.source_blocks.specs.Turns.{loop_part, loop_block, gone_over}
 
 module _ (setting : Setting) (x : Config) (fuel : ℕ) where
-  closing_is : (part : Part) (in_part : HasPart x.around part)
+  closing_is : (part : OpenPart) (in_part : HasPart x.around part)
       → closing setting x x.around ≡ ended setting x in_part.inmost in_part.others part
   closing_is part in_part = ap (closing setting x) in_part.is
       ∙ ap (ended setting x in_part.inmost in_part.others) in_part.same
 
-  goes_over : (second : Bool) (part : Part) (in_part : HasPart x.around part)
+  goes_over : (second : Bool) (part : OpenPart) (in_part : HasPart x.around part)
       → gone_over second x x.around
       ≡ turned_to x in_part.inmost in_part.others (loop_part second part) (loop_block second part)
   goes_over second part in_part = ap (gone_over second x) in_part.is

@@ -14,7 +14,7 @@ use Rattle.source_blocks.specs.meaning_machine.Machine.{Caller as From}
 use Rattle.source_blocks.specs.source_steps.declared.stop.Stop.{Stop}
 use Rattle.source_blocks.specs.source_steps.declared.stop.Stop.TheVariants as stop
 use Rattle.source_blocks.specs.source_store.declared.lack.Lack.TheVariants as lacking
-use Rattle.source_blocks.specs.source_steps.Metered.{Went, metered, Failed, Gives}
+use Rattle.source_blocks.specs.source_steps.Metered.{Went, metered, Failed, MeteredGives}
 use Rattle.source_blocks.proofs.source_steps_laws.Fuelled.{goes, fails}
 use Rattle.source_blocks.proofs.source_steps_laws.Moves.{moved_out_both}
 use Rattle.source_statements.proofs.Begun.{given_as, through}
@@ -53,7 +53,7 @@ module _ (setting : Setting) (x : Config) (s : Statement) (rest : Statements) (a
       → metered fuel (spend cost) ≡ Went tt one → metered one (fault_if TOO_DEEP deep) ≡ Went tt two
       → deep ≡ is_too_deep setting st
       → MatchResult result (λ u. y ≡ own_entered) (λ why. why ≡ stop.Lacks lacking.NoMemory)
-      → Gives (λ (e : E). y) result two (metered fuel own_call)
+      → MeteredGives (λ (e : E). y) result two (metered fuel own_call)
   own_goes result one two deep y p q d m =
       through (λ e. y) result fuel one two (spend (length args)) tt (λ u. own_deep)
       (ap (λ k. metered fuel (spend k)) (sym paid) ∙ p)

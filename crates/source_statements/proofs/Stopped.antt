@@ -9,10 +9,10 @@ use Rattle.source_blocks.specs.source_steps.declared.stop.Stop.TheVariants as st
 use Rattle.source_blocks.specs.source_store.declared.lack.Lack.TheVariants as lacking
 use Rattle.source_blocks.specs.source_steps.Metered.{IsOwn, IsOwnOrFull, IsFault, OnFault}
 use Rattle.source_blocks.specs.declared.run.Run.{Run}
-use Rattle.source_blocks.specs.Blocks.{count_of}
+use Rattle.source_blocks.specs.Blocks.{statement_count}
 use Rattle.source_blocks.specs.Tasks.{task_of}
 use Rattle.source_blocks.specs.Requests.{is_request}
-use Rattle.source_blocks.specs.Runs.{IsSound, Stays, config_of, here_in}
+use Rattle.source_blocks.specs.Runs.{IsSound, RunStays, config_of, here_in}
 use Rattle.source_blocks.specs.Stops.{MayStop}
 use Rattle.source_blocks.proofs.Blocks.{rest_here, rest_end}
 use Rattle.source_blocks.proofs.Stopping.{own_may}
@@ -34,20 +34,20 @@ asked_may (Call at back receiver method args) why e = absurd (false≢true e)
 asked_may (Skip at) why e = absurd (false≢true e)
 
 module _ (run : Run) where
-  pub ends_so : {E : Type 0} (result : Result E Stop) → count_of (task_of run.task) ≤ run.at
+  pub ends_so : {E : Type 0} (result : Result E Stop) → statement_count (task_of run.task) ≤ run.at
       → IfErr result IsOwnOrFull → IfErr result (λ why. MayStopAt (config_of run).rest why)
   ends_so (Ok e) h own = tt
   ends_so (Err why) h own = subst (λ (rest : Statements). MayStopAt rest why)
       (sym (rest_end run.at (task_of run.task) h)) own
 
-  pub begins_so : {E : Type 0} (result : Result E Stop) (s : Statement) → run.at < count_of (task_of run.task)
+  pub begins_so : {E : Type 0} (result : Result E Stop) (s : Statement) → run.at < statement_count (task_of run.task)
       → here_in run ≡ s → IfErr result (λ why. MayStop s why) → IfErr result (λ why. MayStopAt (config_of run).rest why)
   begins_so (Ok e) s h here may = tt
   begins_so (Err why) s h here may =
       subst (λ (rest : Statements). MayStopAt rest why) (sym (rest_here run.at (task_of run.task) h))
       (subst (λ (t : Statement). MayStop t why) (sym here) may)
 
-  pub unpaid_so : (why : Stop) → run.at < count_of (task_of run.task) → IsOwn why → MayStopAt (config_of run).rest why
+  pub unpaid_so : (why : Stop) → run.at < statement_count (task_of run.task) → IsOwn why → MayStopAt (config_of run).rest why
   unpaid_so why h own = subst (λ (rest : Statements). MayStopAt rest why) (sym (rest_here run.at (task_of run.task) h))
       (own_may (here_in run) why own)
 
@@ -59,7 +59,7 @@ no_fault (Err why) P it m = λ fault. absurd (subst IsFault m fault)
 
 -- a run that is as it was is where it was
 pub stays_so : {E : Type 0} (result : Result E Stop) (old new : Run) → IsSound old → OnFault result (new ≡ old)
-    → OnFault result (Stays old new)
+    → OnFault result (RunStays old new)
 stays_so (Ok e) old new sound h = tt
 stays_so (Err why) old new sound h = λ fault. record {
   place = ap config_of (h fault);

@@ -28,7 +28,7 @@ caller_state here caller heap = record {
 
 -- each variable of a caller has a value, and its name a mark, and the heap is of the order that the
 -- limits say
-pub record HasRoom (here : Here) (caller : Caller) (heap : Kept) : Type 0 where
+pub record HasCallSpace (here : Here) (caller : Caller) (heap : Kept) : Type 0 where
   pub each : length caller.values.items ≡ length (caller_names caller)
   pub order : heap.order ≡ here.limits.heap
   pub marked : AreMarked caller.marks (caller_names caller)

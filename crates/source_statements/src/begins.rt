@@ -6,10 +6,10 @@ ghost use Rattle.source_blocks.specs.roopl_semantics.Execution.{in_direction, op
 ghost use Rattle.source_blocks.specs.meaning_machine.Machine.{begun, held_local, inside, Chosen, Holding};
 ghost use Rattle.source_blocks.specs.source_store.ValueView.{value_of};
 ghost use Rattle.source_blocks.specs.source_steps.Ends.{turned};
-ghost use Rattle.source_blocks.specs.source_steps.Metered.{Gives, metered, OnFault};
+ghost use Rattle.source_blocks.specs.source_steps.Metered.{MeteredGives, metered, OnFault};
 ghost use Rattle.source_blocks.specs.source_steps.StateView.{setting_of};
-ghost use Rattle.source_blocks.specs.Blocks.{count_of};
-ghost use Rattle.source_blocks.specs.Tasks.{task_of, line_of};
+ghost use Rattle.source_blocks.specs.Blocks.{statement_count};
+ghost use Rattle.source_blocks.specs.Tasks.{task_of, statement_line};
 ghost use Rattle.source_blocks.specs.Opens.{closing_of};
 ghost use Rattle.source_blocks.specs.Runs.{IsSound, IsSimple, config_of, state_in, here_in, rest_in};
 ghost use Rattle.source_blocks.specs.Stops.{MayStop};
@@ -37,12 +37,12 @@ pub struct Choice<'a> {
 /// A choice begins: the side that its test finds is open.
 fn choose<'a>(run: &mut Run<'a>, fuel: &mut u64, at: u32, choice: &Choice<'a>) -> Result<(), Stop>
     requires sound { IsSound run.old }
-    requires within { run.old.at < count_of (task_of run.old.task) }
+    requires within { run.old.at < statement_count (task_of run.old.task) }
     requires here { here_in run.old ≡ If at (expression_of choice.now.test.now)
         (in_direction choice.now.back (block_of choice.now.taken.now))
         (in_direction choice.now.back (block_of choice.now.other.now))
         (expression_of choice.now.after.now) }
-    ensures gives { Gives (λ u. config_of run.new) result fuel.new
+    ensures gives { MeteredGives (λ u. config_of run.new) result fuel.new
         (metered fuel.old (begun (setting_of run.old.setting) (config_of run.old)
         (here_in run.old) (rest_in run.old))) }
     ensures sound { OnOk result (IsSound run.new) }
@@ -60,7 +60,7 @@ fn choose<'a>(run: &mut Run<'a>, fuel: &mut u64, at: u32, choice: &Choice<'a>) -
 /// A side of a choice is open.
 fn open_side<'a>(run: &mut Run<'a>, side: bool, choice: &Choice<'a>) -> Result<(), Stop>
     requires sound { IsSound run.old }
-    requires within { run.old.at < count_of (task_of run.old.task) }
+    requires within { run.old.at < statement_count (task_of run.old.task) }
     ensures opened { MatchResult result (λ u. config_of run.new
         ≡ inside (config_of run.old) (here_in run.old) (rest_in run.old)
         (Chosen side (expression_of choice.now.test.now) (expression_of choice.now.after.now))
@@ -94,12 +94,12 @@ fn open_side<'a>(run: &mut Run<'a>, side: bool, choice: &Choice<'a>) -> Result<(
 /// A loop begins: its first part is open if its entry holds.
 fn repeat<'a>(run: &mut Run<'a>, fuel: &mut u64, at: u32, turns: &Loop<'a>) -> Result<(), Stop>
     requires sound { IsSound run.old }
-    requires within { run.old.at < count_of (task_of run.old.task) }
+    requires within { run.old.at < statement_count (task_of run.old.task) }
     requires here { here_in run.old ≡ Repeat at (expression_of turns.now.entry.now)
         (in_direction turns.now.back (block_of turns.now.first.now))
         (in_direction turns.now.back (block_of turns.now.again.now))
         (expression_of turns.now.exit.now) }
-    ensures gives { Gives (λ u. config_of run.new) result fuel.new
+    ensures gives { MeteredGives (λ u. config_of run.new) result fuel.new
         (metered fuel.old (begun (setting_of run.old.setting) (config_of run.old)
         (here_in run.old) (rest_in run.old))) }
     ensures sound { OnOk result (IsSound run.new) }
@@ -149,8 +149,8 @@ pub fn open_local<'a>(
     task: Task<'a>,
 ) -> Result<(), Stop>
     requires sound { IsSound run.old }
-    requires within { run.old.at < count_of (task_of run.old.task) }
-    ensures gives { Gives (λ u. config_of run.new) result fuel.new
+    requires within { run.old.at < statement_count (task_of run.old.task) }
+    ensures gives { MeteredGives (λ u. config_of run.new) result fuel.new
         (metered fuel.old (held_local (setting_of run.old.setting) (config_of run.old)
         (here_in run.old) (rest_in run.old) local.now.name.now (closing_of local.now.value)
         (task_of task.entry) (closing_of local.now.end_value))) }
@@ -174,7 +174,7 @@ fn open_holding<'a>(
     task: Task<'a>,
 ) -> Result<(), Stop>
     requires sound { IsSound run.old }
-    requires within { run.old.at < count_of (task_of run.old.task) }
+    requires within { run.old.at < statement_count (task_of run.old.task) }
     ensures opened { MatchResult result (λ u. config_of run.new
         ≡ inside (config_of run.old) (here_in run.old) (rest_in run.old)
         (Holding local.now.name.now (closing_of local.now.value) (closing_of local.now.end_value))
@@ -193,10 +193,10 @@ fn open_holding<'a>(
 /// A simple statement begins, and is past.
 fn begin_simple<'a>(run: &mut Run<'a>, fuel: &mut u64, line: &Line<'a>) -> Result<(), Stop>
     requires sound { IsSound run.old }
-    requires within { run.old.at < count_of (task_of run.old.task) }
-    requires here { here_in run.old ≡ line_of line.now }
-    requires simple { IsSimple (line_of line.now) }
-    ensures gives { Gives (λ u. config_of run.new) result fuel.new
+    requires within { run.old.at < statement_count (task_of run.old.task) }
+    requires here { here_in run.old ≡ statement_line line.now }
+    requires simple { IsSimple (statement_line line.now) }
+    ensures gives { MeteredGives (λ u. config_of run.new) result fuel.new
         (metered fuel.old (begun (setting_of run.old.setting) (config_of run.old)
         (here_in run.old) (rest_in run.old))) }
     ensures sound { OnOk result (IsSound run.new) }
@@ -204,7 +204,7 @@ fn begin_simple<'a>(run: &mut Run<'a>, fuel: &mut u64, line: &Line<'a>) -> Resul
     ensures setting { setting_of run.new.setting ≡ setting_of run.old.setting }
     ensures stays { OnFault result (run.new ≡ run.old) }
     ensures less { fuel.new ≤ fuel.old }
-    ensures stops { IfErr result (λ why. MayStop (line_of line.now) why) }
+    ensures stops { IfErr result (λ why. MayStop (statement_line line.now) why) }
 {
     match carry_line(run, fuel, line) {
         Err(why) => Err(why),
@@ -219,10 +219,10 @@ fn begin_simple<'a>(run: &mut Run<'a>, fuel: &mut u64, line: &Line<'a>) -> Resul
 #[inline(always)]
 pub fn begin_plain(run: &mut Run, fuel: &mut u64, s: &Stmt, back: bool) -> Result<(), Stop>
     requires sound { IsSound run.old }
-    requires within { run.old.at < count_of (task_of run.old.task) }
+    requires within { run.old.at < statement_count (task_of run.old.task) }
     requires here { here_in run.old ≡ turned back (statement_of s.now) }
     requires simple { IsSimple (turned back (statement_of s.now)) }
-    ensures gives { Gives (λ u. config_of run.new) result fuel.new
+    ensures gives { MeteredGives (λ u. config_of run.new) result fuel.new
         (metered fuel.old (begun (setting_of run.old.setting) (config_of run.old)
         (here_in run.old) (rest_in run.old))) }
     ensures sound { OnOk result (IsSound run.new) }
@@ -244,9 +244,9 @@ pub fn begin_plain(run: &mut Run, fuel: &mut u64, s: &Stmt, back: bool) -> Resul
 /// A statement of the text begins, as it stands.
 pub fn begin_forward<'a>(run: &mut Run<'a>, fuel: &mut u64, s: &'a Stmt) -> Result<(), Stop>
     requires sound { IsSound run.old }
-    requires within { run.old.at < count_of (task_of run.old.task) }
+    requires within { run.old.at < statement_count (task_of run.old.task) }
     requires here { here_in run.old ≡ statement_of s.now }
-    ensures gives { Gives (λ u. config_of run.new) result fuel.new
+    ensures gives { MeteredGives (λ u. config_of run.new) result fuel.new
         (metered fuel.old (begun (setting_of run.old.setting) (config_of run.old)
         (here_in run.old) (rest_in run.old))) }
     ensures sound { OnOk result (IsSound run.new) }
@@ -369,9 +369,9 @@ pub fn begin_forward<'a>(run: &mut Run<'a>, fuel: &mut u64, s: &'a Stmt) -> Resu
 /// A statement of the text begins, undone.
 pub fn begin_backward<'a>(run: &mut Run<'a>, fuel: &mut u64, s: &'a Stmt) -> Result<(), Stop>
     requires sound { IsSound run.old }
-    requires within { run.old.at < count_of (task_of run.old.task) }
+    requires within { run.old.at < statement_count (task_of run.old.task) }
     requires here { here_in run.old ≡ turned true (statement_of s.now) }
-    ensures gives { Gives (λ u. config_of run.new) result fuel.new
+    ensures gives { MeteredGives (λ u. config_of run.new) result fuel.new
         (metered fuel.old (begun (setting_of run.old.setting) (config_of run.old)
         (here_in run.old) (rest_in run.old))) }
     ensures sound { OnOk result (IsSound run.new) }
@@ -494,8 +494,8 @@ pub fn begin_backward<'a>(run: &mut Run<'a>, fuel: &mut u64, s: &'a Stmt) -> Res
 /// A `construct` begins: its variable appears, with what it means inside.
 fn construct<'a>(run: &mut Run<'a>, fuel: &mut u64, made: &Construct<'a>) -> Result<(), Stop>
     requires sound { IsSound run.old }
-    requires within { run.old.at < count_of (task_of run.old.task) }
-    ensures gives { Gives (λ u. config_of run.new) result fuel.new
+    requires within { run.old.at < statement_count (task_of run.old.task) }
+    ensures gives { MeteredGives (λ u. config_of run.new) result fuel.new
         (metered fuel.old (held_local (setting_of run.old.setting) (config_of run.old)
         (here_in run.old) (rest_in run.old) made.now.name.now.text (Null made.now.at)
         (task_of (Task.Made made.now)) (Null made.now.at))) }
@@ -520,9 +520,9 @@ fn construct<'a>(run: &mut Run<'a>, fuel: &mut u64, made: &Construct<'a>) -> Res
 /// A statement of the block that runs begins.
 pub fn begin<'a>(run: &mut Run<'a>, fuel: &mut u64, line: &Line<'a>) -> Result<(), Stop>
     requires sound { IsSound run.old }
-    requires within { run.old.at < count_of (task_of run.old.task) }
-    requires here { here_in run.old ≡ line_of line.now }
-    ensures gives { Gives (λ u. config_of run.new) result fuel.new
+    requires within { run.old.at < statement_count (task_of run.old.task) }
+    requires here { here_in run.old ≡ statement_line line.now }
+    ensures gives { MeteredGives (λ u. config_of run.new) result fuel.new
         (metered fuel.old (begun (setting_of run.old.setting) (config_of run.old)
         (here_in run.old) (rest_in run.old))) }
     ensures sound { OnOk result (IsSound run.new) }
@@ -530,7 +530,7 @@ pub fn begin<'a>(run: &mut Run<'a>, fuel: &mut u64, line: &Line<'a>) -> Result<(
     ensures setting { setting_of run.new.setting ≡ setting_of run.old.setting }
     ensures stays { OnFault result (run.new ≡ run.old) }
     ensures less { fuel.new ≤ fuel.old }
-    ensures stops { IfErr result (λ why. MayStop (line_of line.now) why) }
+    ensures stops { IfErr result (λ why. MayStop (statement_line line.now) why) }
 {
     match line {
         Line::Text { stmt, back } => {

@@ -9,11 +9,11 @@ ghost use Rattle.source_blocks.specs.roopl_semantics.Value.{read, cell_named};
 ghost use Rattle.source_blocks.specs.roopl_semantics.Execution.{in_direction, cells_named, class_of, moved_out, bound};
 ghost use Rattle.source_blocks.specs.meaning_machine.Machine.{called, entered, held_local};
 ghost use Rattle.source_blocks.specs.source_store.ValueView.{value_of, values_of};
-ghost use Rattle.source_blocks.specs.source_steps.CellView.{cell_of};
+ghost use Rattle.source_blocks.specs.source_steps.CellView.{cell_view};
 ghost use Rattle.source_blocks.specs.source_steps.Marks.{with_marks as marks_in};
-ghost use Rattle.source_blocks.specs.source_steps.Metered.{Gives, metered, OnFault};
+ghost use Rattle.source_blocks.specs.source_steps.Metered.{MeteredGives, metered, OnFault};
 ghost use Rattle.source_blocks.specs.source_steps.StateView.{setting_of};
-ghost use Rattle.source_blocks.specs.Blocks.{count_of};
+ghost use Rattle.source_blocks.specs.Blocks.{statement_count};
 ghost use Rattle.source_blocks.specs.Tasks.{task_of};
 ghost use Rattle.source_blocks.specs.Opens.{cells_in, values_in, part_of, IsCaller};
 ghost use Rattle.source_blocks.specs.Runs.{IsSound, config_of, state_in, here_in, rest_in, only_cell};
@@ -86,7 +86,7 @@ fn receiver_of(run: &Run, cell: Option<Cell>) -> Option<Receiver>
 /// The values of these cells move away.
 fn empty(run: &mut Run, cells: &[Cell])
     requires sound { IsSound run.old }
-    ensures moved { state_in run.new ≡ moved_out (map cell_of cells.now) (state_in run.old) }
+    ensures moved { state_in run.new ≡ moved_out (map cell_view cells.now) (state_in run.old) }
     ensures sound { IsSound run.new }
     ensures same { run.new ≡ record run.old { heap = run.new.heap; values = run.new.values } }
 {
@@ -96,7 +96,7 @@ fn empty(run: &mut Run, cells: &[Cell])
 
 /// Only a cell.
 pub fn alone(cell: &Cell) -> &[Cell]
-    ensures cell { map cell_of result.now ≡ cell_of cell.now ∷ [] }
+    ensures cell { map cell_view result.now ≡ cell_view cell.now ∷ [] }
     ensures one { length result.now ≡ 1 }
 {
     from_ref(cell)
@@ -105,7 +105,7 @@ pub fn alone(cell: &Cell) -> &[Cell]
 /// The values of a receiver and of arguments move away.
 fn move_in(run: &mut Run, receiver: &Option<Receiver>, args: &Vec<Cell>)
     requires sound { IsSound run.old }
-    ensures moved { state_in run.new ≡ moved_out (map cell_of args.now.items)
+    ensures moved { state_in run.new ≡ moved_out (map cell_view args.now.items)
         (moved_out (cells_in receiver.now) (state_in run.old)) }
     ensures sound { IsSound run.new }
     ensures same { run.new ≡ record run.old { heap = run.new.heap; values = run.new.values } }
@@ -180,7 +180,7 @@ fn enter<'a>(
     calls: &Calls<'a>,
 ) -> Result<(), Stop>
     requires sound { IsSound run.old }
-    requires within { run.old.at < count_of (task_of run.old.task) }
+    requires within { run.old.at < statement_count (task_of run.old.task) }
     requires shallow { run.old.setting.depth < (setting_of run.old.setting).limits.deep }
     ensures entered { MatchResult result (λ u. config_of run.new
         ≡ entered (setting_of run.old.setting) (config_of run.old) (here_in run.old)
@@ -213,12 +213,12 @@ fn enter_with<'a>(
     inside: Vec<Value>,
 ) -> Result<(), Stop>
     requires sound { IsSound run.old }
-    requires within { run.old.at < count_of (task_of run.old.task) }
+    requires within { run.old.at < statement_count (task_of run.old.task) }
     requires shallow { run.old.setting.depth < (setting_of run.old.setting).limits.deep }
-    requires cells { map cell_of args.items
+    requires cells { map cell_view args.items
         ≡ cells_named (setting_of run.old.setting) (state_in run.old) calls.now.args.now }
     requires held { values_of inside.items
-        ≡ map (read (state_in run.old)) (map cell_of args.items) }
+        ≡ map (read (state_in run.old)) (map cell_view args.items) }
     ensures entered { MatchResult result (λ u. config_of run.new
         ≡ entered (setting_of run.old.setting) (config_of run.old) (here_in run.old)
         (rest_in run.old) calls.now.back
@@ -245,7 +245,7 @@ fn enter_with<'a>(
 /// The cells of a call's arguments.
 fn cells_in_order(run: &Run, calls: &Calls) -> Result<Vec<Cell>, Stop>
     requires sound { IsSound run.now }
-    ensures { MatchResult result (λ cells. map cell_of cells.items
+    ensures { MatchResult result (λ cells. map cell_view cells.items
         ≡ cells_named (setting_of run.now.setting) (state_in run.now) calls.now.args.now)
         (λ why. why ≡ Stop.Lacks Lack.NoMemory) }
 {
@@ -257,7 +257,7 @@ fn cells_in_order(run: &Run, calls: &Calls) -> Result<Vec<Cell>, Stop>
 fn values_in_order(run: &Run, cells: &Vec<Cell>) -> Result<Vec<Value>, Stop>
     requires sound { IsSound run.now }
     ensures { MatchResult result (λ values. values_of values.items
-        ≡ map (read (state_in run.now)) (map cell_of cells.now.items)) (λ why. why ≡ Stop.Lacks Lack.NoMemory) }
+        ≡ map (read (state_in run.now)) (map cell_view cells.now.items)) (λ why. why ≡ Stop.Lacks Lack.NoMemory) }
 {
     let scope = scope_of(&run.locals, run.params, run.marks);
     match read_cells(
@@ -276,8 +276,8 @@ fn values_in_order(run: &Run, cells: &Vec<Cell>) -> Result<Vec<Value>, Stop>
 /// A call of a method of the current object begins.
 fn call_own<'a>(run: &mut Run<'a>, fuel: &mut u64, calls: &Calls<'a>) -> Result<(), Stop>
     requires sound { IsSound run.old }
-    requires within { run.old.at < count_of (task_of run.old.task) }
-    ensures gives { Gives (λ u. config_of run.new) result fuel.new
+    requires within { run.old.at < statement_count (task_of run.old.task) }
+    ensures gives { MeteredGives (λ u. config_of run.new) result fuel.new
         (metered fuel.old (called (setting_of run.old.setting) (config_of run.old)
         (here_in run.old) (rest_in run.old) calls.now.at calls.now.back None calls.now.method.now
         calls.now.args.now)) }
@@ -305,8 +305,8 @@ pub fn call_on<'a>(
     calls: &Calls<'a>,
 ) -> Result<(), Stop>
     requires sound { IsSound run.old }
-    requires within { run.old.at < count_of (task_of run.old.task) }
-    ensures gives { Gives (λ u. config_of run.new) result fuel.new
+    requires within { run.old.at < statement_count (task_of run.old.task) }
+    ensures gives { MeteredGives (λ u. config_of run.new) result fuel.new
         (metered fuel.old (called (setting_of run.old.setting) (config_of run.old)
         (here_in run.old) (rest_in run.old) calls.now.at calls.now.back (Some (Whole name.now))
         calls.now.method.now calls.now.args.now)) }
@@ -333,7 +333,7 @@ pub fn call_on<'a>(
 /// The cell of a name, and what it holds.
 fn named(run: &Run, name: &Text) -> (Cell, Value)
     requires sound { IsSound run.now }
-    ensures cell { cell_of result.0 ≡ cell_named (setting_of run.now.setting).program
+    ensures cell { cell_view result.0 ≡ cell_named (setting_of run.now.setting).program
         (state_in run.now) name.now }
     ensures value { value_of result.1 ≡ read (state_in run.now) (cell_named
         (setting_of run.now.setting).program (state_in run.now) name.now) }
@@ -352,8 +352,8 @@ pub fn call<'a>(
     calls: &Calls<'a>,
 ) -> Result<(), Stop>
     requires sound { IsSound run.old }
-    requires within { run.old.at < count_of (task_of run.old.task) }
-    ensures gives { Gives (λ u. config_of run.new) result fuel.new
+    requires within { run.old.at < statement_count (task_of run.old.task) }
+    ensures gives { MeteredGives (λ u. config_of run.new) result fuel.new
         (metered fuel.old (called (setting_of run.old.setting) (config_of run.old)
         (here_in run.old) (rest_in run.old) calls.now.at calls.now.back
         (optional_lvalue_of receiver.now) calls.now.method.now calls.now.args.now)) }

@@ -4,15 +4,15 @@ ghost use Rattle.rpp_tree.specs.Views.{expression_of};
 ghost use Rattle.source_blocks.specs.roopl_semantics.Execution.{closed, moved_back};
 ghost use Rattle.source_blocks.specs.meaning_machine.Machine.{closing};
 ghost use Rattle.source_blocks.specs.source_store.ValueView.{values_of};
-ghost use Rattle.source_blocks.specs.source_steps.CellView.{cell_of};
-ghost use Rattle.source_blocks.specs.source_steps.Metered.{Gives, metered, IsOwn, IsOwnOrFull, OnFault};
+ghost use Rattle.source_blocks.specs.source_steps.CellView.{cell_view};
+ghost use Rattle.source_blocks.specs.source_steps.Metered.{MeteredGives, metered, IsOwn, IsOwnOrFull, OnFault};
 ghost use Rattle.source_blocks.specs.source_steps.StateView.{setting_of};
-ghost use Rattle.source_blocks.specs.Blocks.{past_at, rest_at, count_of};
+ghost use Rattle.source_blocks.specs.Blocks.{past_at, rest_at, statement_count};
 ghost use Rattle.source_blocks.specs.Tasks.{task_of};
 ghost use Rattle.source_blocks.specs.Opens.{part_of, caller_of, caller_names, cells_in, values_in, HasPart};
-ghost use Rattle.source_blocks.specs.Runs.{IsSound, Stays, config_of, state_in};
+ghost use Rattle.source_blocks.specs.Runs.{IsSound, RunStays, config_of, state_in};
 ghost use Rattle.source_blocks.specs.Endings.{IsInCall};
-ghost use Rattle.source_statements.specs.Endings.{IsInSide, caller_state, HasRoom, Falls};
+ghost use Rattle.source_statements.specs.Endings.{IsInSide, caller_state, HasCallSpace, Falls};
 ghost use Rattle.source_blocks.specs.source_steps.Marks.{AreMarked};
 
 use code_conventions::faults::{DELOCAL, FI, LOOP};
@@ -36,7 +36,7 @@ fn differs(side: bool, test: bool) -> bool
 fn end_side(run: &mut Run, fuel: &mut u64, side: bool, after: &Expr) -> Result<(), Stop>
     requires sound { IsSound run.old }
     requires within { IsInSide (config_of run.old) side (expression_of after.now) }
-    ensures gives { Gives (λ u. config_of run.new) result fuel.new
+    ensures gives { MeteredGives (λ u. config_of run.new) result fuel.new
         (metered fuel.old (closing (setting_of run.old.setting) (config_of run.old)
         (config_of run.old).around)) }
     ensures sound { OnOk result (IsSound run.new) }
@@ -62,7 +62,7 @@ fn end_side(run: &mut Run, fuel: &mut u64, side: bool, after: &Expr) -> Result<(
 fn end_first<'a>(run: &mut Run<'a>, fuel: &mut u64, turns: &Loop<'a>) -> Result<(), Stop>
     requires sound { IsSound run.old }
     requires within { HasPart (config_of run.old).around (part_of (Part.First turns.now)) }
-    ensures gives { Gives (λ u. config_of run.new) result fuel.new
+    ensures gives { MeteredGives (λ u. config_of run.new) result fuel.new
         (metered fuel.old (closing (setting_of run.old.setting) (config_of run.old)
         (config_of run.old).around)) }
     ensures sound { OnOk result (IsSound run.new) }
@@ -91,7 +91,7 @@ fn end_first<'a>(run: &mut Run<'a>, fuel: &mut u64, turns: &Loop<'a>) -> Result<
 fn end_again<'a>(run: &mut Run<'a>, fuel: &mut u64, turns: &Loop<'a>) -> Result<(), Stop>
     requires sound { IsSound run.old }
     requires within { HasPart (config_of run.old).around (part_of (Part.Again turns.now)) }
-    ensures gives { Gives (λ u. config_of run.new) result fuel.new
+    ensures gives { MeteredGives (λ u. config_of run.new) result fuel.new
         (metered fuel.old (closing (setting_of run.old.setting) (config_of run.old)
         (config_of run.old).around)) }
     ensures sound { OnOk result (IsSound run.new) }
@@ -136,7 +136,7 @@ fn close_variable(run: &mut Run)
 fn end_local(run: &mut Run, fuel: &mut u64, local: &Local) -> Result<(), Stop>
     requires sound { IsSound run.old }
     requires within { HasPart (config_of run.old).around (part_of (Part.Holding local.now)) }
-    ensures gives { Gives (λ u. config_of run.new) result fuel.new
+    ensures gives { MeteredGives (λ u. config_of run.new) result fuel.new
         (metered fuel.old (closing (setting_of run.old.setting) (config_of run.old)
         (config_of run.old).around)) }
     ensures sound { OnOk result (IsSound run.new) }
@@ -171,14 +171,14 @@ fn give_back(
     caller: &mut Caller,
     inside: &[Value],
 ) -> Result<(), Stop>
-    requires room { HasRoom setting.now caller.old heap.old }
-    ensures gives { Gives (λ u. caller_state setting.now caller.new heap.new) result fuel.new
-        (metered fuel.old (moved_back (cells_in caller.old.receiver ++ map cell_of
+    requires room { HasCallSpace setting.now caller.old heap.old }
+    ensures gives { MeteredGives (λ u. caller_state setting.now caller.new heap.new) result fuel.new
+        (metered fuel.old (moved_back (cells_in caller.old.receiver ++ map cell_view
         caller.old.args.items) (values_in caller.old.receiver ++ values_of inside.now)
         (caller_state setting.now caller.old heap.old))) }
     ensures stays { OnErr result (caller_state setting.now caller.new heap.new
         ≡ caller_state setting.now caller.old heap.old) }
-    ensures room { HasRoom setting.now caller.new heap.new }
+    ensures room { HasCallSpace setting.now caller.new heap.new }
     ensures same { caller.new ≡ record caller.old { values = caller.new.values } }
     ensures fuel { fuel.new ≡ fuel.old }
     ensures own { IfErr result IsOwn }
@@ -213,7 +213,7 @@ fn give_back(
 
 /// A method is past: what encloses its caller is active again.
 fn become_caller<'a>(run: &mut Run<'a>, task: Task<'a>, at: usize, caller: Caller<'a>)
-    requires within { at < count_of (task_of task) }
+    requires within { at < statement_count (task_of task) }
     requires sound { IsSound run.old }
     requires each { length caller.values.items ≡ length (caller_names caller) }
     requires marked { AreMarked caller.marks (caller_names caller) }
@@ -266,13 +266,13 @@ fn caller_setting<'a>(setting: &Setting<'a>, caller: &Caller) -> Setting<'a>
 fn end_call(run: &mut Run, fuel: &mut u64) -> Result<(), Stop>
     requires sound { IsSound run.old }
     requires within { IsInCall (config_of run.old).around }
-    ensures gives { Gives (λ u. config_of run.new) result fuel.new
+    ensures gives { MeteredGives (λ u. config_of run.new) result fuel.new
         (metered fuel.old (closing (setting_of run.old.setting) (config_of run.old)
         (config_of run.old).around)) }
     ensures sound { OnOk result (IsSound run.new) }
     ensures opens { OnOk result (length run.new.frames.items < length run.old.frames.items) }
     ensures setting { setting_of run.new.setting ≡ setting_of run.old.setting }
-    ensures stays { OnFault result (Stays run.old run.new) }
+    ensures stays { OnFault result (RunStays run.old run.new) }
     ensures less { fuel.new ≤ fuel.old }
     ensures own { IfErr result IsOwn }
 {
@@ -301,7 +301,7 @@ fn end_call(run: &mut Run, fuel: &mut u64) -> Result<(), Stop>
 /// The block that runs ends.
 pub fn end(run: &mut Run, fuel: &mut u64) -> Result<(), Stop>
     requires sound { IsSound run.old }
-    ensures gives { Gives (λ u. config_of run.new) result fuel.new
+    ensures gives { MeteredGives (λ u. config_of run.new) result fuel.new
         (metered fuel.old (closing (setting_of run.old.setting) (config_of run.old)
         (config_of run.old).around)) }
     ensures sound { OnOk result (IsSound run.new) }
@@ -309,7 +309,7 @@ pub fn end(run: &mut Run, fuel: &mut u64) -> Result<(), Stop>
         (2 * fuel.new + length run.new.frames.items)
         (2 * fuel.old + length run.old.frames.items)) }
     ensures setting { setting_of run.new.setting ≡ setting_of run.old.setting }
-    ensures stays { OnFault result (Stays run.old run.new) }
+    ensures stays { OnFault result (RunStays run.old run.new) }
     ensures less { fuel.new ≤ fuel.old }
     ensures own { IfErr result IsOwnOrFull }
 {

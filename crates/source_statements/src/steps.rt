@@ -4,12 +4,12 @@ ghost use Rattle.rpp_tree.specs.Views.{block_of, statement_of};
 ghost use Rattle.source_blocks.specs.roopl_semantics.Execution.{in_direction};
 ghost use Rattle.source_blocks.specs.meaning_machine.Machine.{begun};
 ghost use Rattle.source_blocks.specs.source_steps.Ends.{turned};
-ghost use Rattle.source_blocks.specs.source_steps.Metered.{Gives, metered, OnFault};
+ghost use Rattle.source_blocks.specs.source_steps.Metered.{MeteredGives, metered, OnFault};
 ghost use Rattle.source_blocks.specs.source_steps.StateView.{setting_of};
-ghost use Rattle.source_blocks.specs.Blocks.{count_of};
-ghost use Rattle.source_blocks.specs.Tasks.{task_of, line_of};
+ghost use Rattle.source_blocks.specs.Blocks.{statement_count};
+ghost use Rattle.source_blocks.specs.Tasks.{task_of, statement_line};
 ghost use Rattle.source_blocks.specs.Requests.{is_request as asks};
-ghost use Rattle.source_blocks.specs.Runs.{IsSound, IsSimple, Stays, config_of, here_in, rest_in};
+ghost use Rattle.source_blocks.specs.Runs.{IsSound, IsSimple, RunStays, config_of, here_in, rest_in};
 ghost use Rattle.source_statements.specs.Steps.{StepFalls, begun_in, step_in, MayStopAt};
 ghost use Rattle.source_blocks.specs.Stops.{MayStop};
 
@@ -22,10 +22,10 @@ use source_steps::{Stop, spend};
 /// A `new` or `delete` begins in a reversed run, and is past.
 fn begin_request(run: &mut Run, fuel: &mut u64, line: &Line) -> Result<(), Stop>
     requires sound { IsSound run.old }
-    requires within { run.old.at < count_of (task_of run.old.task) }
-    requires here { here_in run.old ≡ line_of line.now }
-    requires asks { asks (line_of line.now) ≡ true }
-    ensures gives { Gives (λ u. config_of run.new) result fuel.new
+    requires within { run.old.at < statement_count (task_of run.old.task) }
+    requires here { here_in run.old ≡ statement_line line.now }
+    requires asks { asks (statement_line line.now) ≡ true }
+    ensures gives { MeteredGives (λ u. config_of run.new) result fuel.new
         (metered fuel.old (begun_in true (setting_of run.old.setting) (config_of run.old)
         (here_in run.old) (rest_in run.old))) }
     ensures sound { OnOk result (IsSound run.new) }
@@ -33,7 +33,7 @@ fn begin_request(run: &mut Run, fuel: &mut u64, line: &Line) -> Result<(), Stop>
     ensures setting { setting_of run.new.setting ≡ setting_of run.old.setting }
     ensures stays { OnFault result (run.new ≡ run.old) }
     ensures less { fuel.new ≤ fuel.old }
-    ensures stops { IfErr result (λ why. MayStop (line_of line.now) why) }
+    ensures stops { IfErr result (λ why. MayStop (statement_line line.now) why) }
 {
     match take_line_back(run, fuel, line) {
         Err(why) => Err(why),
@@ -53,9 +53,9 @@ fn begin_line<'a>(
     back: bool,
 ) -> Result<(), Stop>
     requires sound { IsSound run.old }
-    requires within { run.old.at < count_of (task_of run.old.task) }
-    requires here { here_in run.old ≡ line_of line.now }
-    ensures gives { Gives (λ u. config_of run.new) result fuel.new
+    requires within { run.old.at < statement_count (task_of run.old.task) }
+    requires here { here_in run.old ≡ statement_line line.now }
+    ensures gives { MeteredGives (λ u. config_of run.new) result fuel.new
         (metered fuel.old (begun_in back (setting_of run.old.setting) (config_of run.old)
         (here_in run.old) (rest_in run.old))) }
     ensures sound { OnOk result (IsSound run.new) }
@@ -63,7 +63,7 @@ fn begin_line<'a>(
     ensures setting { setting_of run.new.setting ≡ setting_of run.old.setting }
     ensures stays { OnFault result (run.new ≡ run.old) }
     ensures less { fuel.new ≤ fuel.old }
-    ensures stops { IfErr result (λ why. MayStop (line_of line.now) why) }
+    ensures stops { IfErr result (λ why. MayStop (statement_line line.now) why) }
 {
     if !back {
         return begin(run, fuel, line);
@@ -100,9 +100,9 @@ fn is_simple(s: &Stmt) -> bool
 #[inline(always)]
 fn begin_text<'a>(run: &mut Run<'a>, fuel: &mut u64, s: &'a Stmt, undone: bool) -> Result<(), Stop>
     requires sound { IsSound run.old }
-    requires within { run.old.at < count_of (task_of run.old.task) }
+    requires within { run.old.at < statement_count (task_of run.old.task) }
     requires here { here_in run.old ≡ turned undone (statement_of s.now) }
-    ensures gives { Gives (λ u. config_of run.new) result fuel.new
+    ensures gives { MeteredGives (λ u. config_of run.new) result fuel.new
         (metered fuel.old (begun (setting_of run.old.setting) (config_of run.old)
         (here_in run.old) (rest_in run.old))) }
     ensures sound { OnOk result (IsSound run.new) }
@@ -134,9 +134,9 @@ fn begin_written<'a>(
     back: bool,
 ) -> Result<(), Stop>
     requires sound { IsSound run.old }
-    requires within { run.old.at < count_of (task_of run.old.task) }
+    requires within { run.old.at < statement_count (task_of run.old.task) }
     requires here { here_in run.old ≡ turned undone (statement_of s.now) }
-    ensures gives { Gives (λ u. config_of run.new) result fuel.new
+    ensures gives { MeteredGives (λ u. config_of run.new) result fuel.new
         (metered fuel.old (begun_in back (setting_of run.old.setting) (config_of run.old)
         (here_in run.old) (rest_in run.old))) }
     ensures sound { OnOk result (IsSound run.new) }
@@ -167,14 +167,14 @@ fn step_text<'a>(
 ) -> Result<(), Stop>
     requires sound { IsSound run.old }
     requires text { task_of run.old.task ≡ in_direction undone (block_of block.now) }
-    ensures gives { Gives (λ u. config_of run.new) result fuel.new
+    ensures gives { MeteredGives (λ u. config_of run.new) result fuel.new
         (metered fuel.old (step_in back (setting_of run.old.setting) (config_of run.old))) }
     ensures sound { OnOk result (IsSound run.new) }
     ensures falls { OnOk result (StepFalls (config_of run.old)
         (2 * fuel.new + length run.new.frames.items)
         (2 * fuel.old + length run.old.frames.items)) }
     ensures setting { setting_of run.new.setting ≡ setting_of run.old.setting }
-    ensures stays { OnFault result (Stays run.old run.new) }
+    ensures stays { OnFault result (RunStays run.old run.new) }
     ensures less { fuel.new ≤ fuel.old }
     ensures stops { IfErr result (λ why. MayStopAt (config_of run.old).rest why) }
 {
@@ -191,14 +191,14 @@ fn step_text<'a>(
 #[inline(never)]
 fn step_line<'a>(run: &mut Run<'a>, fuel: &mut u64, back: bool) -> Result<(), Stop>
     requires sound { IsSound run.old }
-    ensures gives { Gives (λ u. config_of run.new) result fuel.new
+    ensures gives { MeteredGives (λ u. config_of run.new) result fuel.new
         (metered fuel.old (step_in back (setting_of run.old.setting) (config_of run.old))) }
     ensures sound { OnOk result (IsSound run.new) }
     ensures falls { OnOk result (StepFalls (config_of run.old)
         (2 * fuel.new + length run.new.frames.items)
         (2 * fuel.old + length run.old.frames.items)) }
     ensures setting { setting_of run.new.setting ≡ setting_of run.old.setting }
-    ensures stays { OnFault result (Stays run.old run.new) }
+    ensures stays { OnFault result (RunStays run.old run.new) }
     ensures less { fuel.new ≤ fuel.old }
     ensures stops { IfErr result (λ why. MayStopAt (config_of run.old).rest why) }
 {
@@ -217,14 +217,14 @@ fn step_line<'a>(run: &mut Run<'a>, fuel: &mut u64, back: bool) -> Result<(), St
 #[inline(always)]
 pub fn step<'a>(run: &mut Run<'a>, fuel: &mut u64, back: bool) -> Result<(), Stop>
     requires sound { IsSound run.old }
-    ensures gives { Gives (λ u. config_of run.new) result fuel.new
+    ensures gives { MeteredGives (λ u. config_of run.new) result fuel.new
         (metered fuel.old (step_in back (setting_of run.old.setting) (config_of run.old))) }
     ensures sound { OnOk result (IsSound run.new) }
     ensures falls { OnOk result (StepFalls (config_of run.old)
         (2 * fuel.new + length run.new.frames.items)
         (2 * fuel.old + length run.old.frames.items)) }
     ensures setting { setting_of run.new.setting ≡ setting_of run.old.setting }
-    ensures stays { OnFault result (Stays run.old run.new) }
+    ensures stays { OnFault result (RunStays run.old run.new) }
     ensures less { fuel.new ≤ fuel.old }
     ensures stops { IfErr result (λ why. MayStopAt (config_of run.old).rest why) }
 {

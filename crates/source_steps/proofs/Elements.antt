@@ -8,7 +8,7 @@ use Rattle.rpp_tree.specs.Tree.{Expression, Number, Null, Variable, Element, Bin
 use Rattle.source_store.specs.roopl_semantics.Store.{State, same_value}
 use Rattle.source_store.specs.roopl_semantics.Value.{variable_value}
 use Rattle.source_store.specs.roopl_semantics.Elements.{elements, is_among}
-use Rattle.source_steps.specs.Apart.{count_elements, meets}
+use Rattle.source_steps.specs.Apart.{count_elements, meets_array}
 
 pub count_one : (e : Expression) → length (elements e) ≡ count_elements e
 count_one (Number at word) = refl
@@ -35,18 +35,18 @@ among_both program st name (x ∷ xs) ys =
     (is_among program st name xs) (is_among program st name ys)
 
 pub meets_one : (program : Source) (st : State) (name : Ident) (e : Expression)
-    → meets program st (variable_value program st name.text) e ≡ is_among program st name (elements e)
+    → meets_array program st (variable_value program st name.text) e ≡ is_among program st name (elements e)
 meets_one program st name (Number at word) = refl
 meets_one program st name (Null at) = refl
 meets_one program st name (Variable other) = refl
 meets_one program st name (Element other index) = ap (λ b. same_value (variable_value program st name.text)
     (variable_value program st other.text) || b) (meets_one program st name index)
 meets_one program st name (Binary at op left right) =
-    ap (λ b. b || meets program st (variable_value program st name.text) right) (meets_one program st name left)
+    ap (λ b. b || meets_array program st (variable_value program st name.text) right) (meets_one program st name left)
     ∙ ap (λ b. is_among program st name (elements left) || b) (meets_one program st name right)
     ∙ sym (among_both program st name (elements left) (elements right))
 
 pub meets_both : (program : Source) (st : State) (name : Ident) (a b : Expression)
-    → meets program st (variable_value program st name.text) a || meets program st (variable_value program st name.text)
+    → meets_array program st (variable_value program st name.text) a || meets_array program st (variable_value program st name.text)
     b ≡ is_among program st name (elements a ++ elements b)
 meets_both program st name a b = meets_one program st name (Binary 0 op.Add a b)

@@ -8,8 +8,8 @@ use Rattle.source_store.specs.roopl_semantics.Store.{State}
 use Rattle.source_store.specs.roopl_semantics.Run.{Run, Done, Fault, More, after_cost, ◌>>=◌, give}
 use Rattle.source_steps.specs.declared.stop.Stop.{Stop}
 use Rattle.source_steps.specs.declared.stop.Stop.TheVariants as stop
-use Rattle.source_steps.specs.Metered.{Metered, Went, Out, left_of, went, stopped, metered, chain, Failed}
-use Rattle.source_steps.specs.Metered.{Gives, IsOwn, IsOwnOrFull}
+use Rattle.source_steps.specs.Metered.{Metered, Went, Out, left_of, went, stopped_metered, metered, metered_chain, Failed}
+use Rattle.source_steps.specs.Metered.{MeteredGives, IsOwn, IsOwnOrFull}
 
 pub left_yes : (fuel cost : ℕ) → cost ≤ fuel → left_of fuel cost ≡ Some (fuel - cost)
 left_yes fuel cost h = ap (λ b. if b then Some (fuel - cost) else None) (le-leb cost fuel h)
@@ -62,7 +62,7 @@ went_left None x cost = refl
 went_left (Some left) x cost = refl
 
 stopped_left : {A : Type 0} (o : Option ℕ) (code cost : ℕ)
-    → stopped {A = A} code (then_left o cost) ≡ with_left o (Fault code cost)
+    → stopped_metered {A = A} code (then_left o cost) ≡ with_left o (Fault code cost)
 stopped_left None code cost = refl
 stopped_left (Some left) code cost = refl
 
@@ -73,23 +73,23 @@ out_left (Some left) = refl
 pub metered_after : {A : Type 0} (fuel cost : ℕ) (run : Run A)
     → metered fuel (after_cost cost run) ≡ with_left (left_of fuel cost) run
 metered_after fuel cost (Done x more) = ap (went x) (left_sum fuel cost more) ∙ went_left (left_of fuel cost) x more
-metered_after fuel cost (Fault code more) = ap (stopped code) (left_sum fuel cost more)
+metered_after fuel cost (Fault code more) = ap (stopped_metered code) (left_sum fuel cost more)
     ∙ stopped_left (left_of fuel cost) code more
 metered_after fuel cost More = out_left (left_of fuel cost)
 
 chain_went : {A B : Type 0} (o : Option ℕ) (x : A) (next : A → Run B)
-    → with_left o (next x) ≡ chain (went x o) (λ a left. metered left (next a))
+    → with_left o (next x) ≡ metered_chain (went x o) (λ a left. metered left (next a))
 chain_went None x next = refl
 chain_went (Some left) x next = refl
 
 chain_stopped : {A B : Type 0} (o : Option ℕ) (code : ℕ) (next : A → ℕ → Metered B)
-    → stopped code o ≡ chain (stopped {A = A} code o) next
+    → stopped_metered code o ≡ metered_chain (stopped_metered {A = A} code o) next
 chain_stopped None code next = refl
 chain_stopped (Some left) code next = refl
 
 -- a run and then another is that other with the fuel that is left
 pub metered_then : {A B : Type 0} (fuel : ℕ) (run : Run A) (next : A → Run B)
-    → metered fuel (run >>= next) ≡ chain (metered fuel run) (λ a left. metered left (next a))
+    → metered fuel (run >>= next) ≡ metered_chain (metered fuel run) (λ a left. metered left (next a))
 metered_then fuel (Done x cost) next = metered_after fuel cost (next x) ∙ chain_went (left_of fuel cost) x next
 metered_then fuel (Fault code cost) next = chain_stopped (left_of fuel cost) code (λ a left. metered left (next a))
 metered_then fuel More next = refl
@@ -97,14 +97,14 @@ metered_then fuel More next = refl
 -- goes on after a run that went well
 pub goes : {A B : Type 0} (fuel left : ℕ) (run : Run A) (a : A) (next : A → Run B) → metered fuel run ≡ Went a left
     → metered fuel (run >>= next) ≡ metered left (next a)
-goes fuel left run a next e = metered_then fuel run next ∙ ap (λ m. chain m (λ b l. metered l (next b))) e
+goes fuel left run a next e = metered_then fuel run next ∙ ap (λ m. metered_chain m (λ b l. metered l (next b))) e
 
 -- why the first part stopped is why the whole did
 pub fails : {A B : Type 0} (fuel left : ℕ) (run : Run A) (next : A → Run B) (why : Stop)
     → Failed why left (metered fuel run) → Failed why left (metered fuel (run >>= next))
 fails fuel left run next (stop.Fault code) e = metered_then fuel run next
-    ∙ ap (λ m. chain m (λ b l. metered l (next b))) e
-fails fuel left run next stop.More e = metered_then fuel run next ∙ ap (λ m. chain m (λ b l. metered l (next b))) e
+    ∙ ap (λ m. metered_chain m (λ b l. metered l (next b))) e
+fails fuel left run next stop.More e = metered_then fuel run next ∙ ap (λ m. metered_chain m (λ b l. metered l (next b))) e
 fails fuel left run next (stop.Lacks lack) e = tt
 
 -- a run that stopped by itself did so with no allocation refused
@@ -142,13 +142,13 @@ pub left_at_most : {A : Type 0} (fuel : ℕ) (run : Run A) (x : A) (left : ℕ) 
 left_at_most fuel (Done y cost) x left e = let k = left_is fuel cost y x left e in omega arith
 left_at_most {A = A} fuel (Fault code cost) x left e = absurd (no_end (left_of fuel cost) e)
   where
-    no_end : (o : Option ℕ) → stopped {A = A} code o ≡ Went x left → ⊥
+    no_end : (o : Option ℕ) → stopped_metered {A = A} code o ≡ Went x left → ⊥
     no_end None q = cc
     no_end (Some k) q = cc
 left_at_most fuel More x left e = cc
 
 -- an error that is passed on
 pub handed : {E : Type 0} (result : Result E Stop) (why : Stop) (g : E → State) (left : ℕ) (run : Metered State)
-    → IsErrAnd result (λ e. e ≡ why) → Failed why left run → Gives g result left run
+    → IsErrAnd result (λ e. e ≡ why) → Failed why left run → MeteredGives g result left run
 handed (Ok x) why g left run e k = absurd e
 handed (Err e) why g left run same k = subst (λ w. Failed w left run) (sym same) k

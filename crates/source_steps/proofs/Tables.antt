@@ -9,7 +9,7 @@ use Rattle.std.specs.Option.{unwrap_or}
 use Rattle.std.specs.Str.{bytes_eq}
 use Rattle.rpp_tree.specs.Tree.{Source}
 use Rattle.source_store.specs.class_rules.Table.{Table, table_of, fields_in, field_in}
-use Rattle.source_store.specs.class_rules.Rules.{class_names}
+use Rattle.source_store.specs.class_rules.Rules.{all_class_names}
 use Rattle.source_store.specs.class_rules.Chains.{parents, parent_named, chain, with_last}
 use Rattle.source_store.specs.class_rules.Members.{field_of, fields, fields_along, no_class}
 use Rattle.source_store.proofs.class_rules_laws.Numbers.{length-each_below}
@@ -77,7 +77,7 @@ fields_read program class = by (nat_lt class (length program.classes)) refl
         (length program.classes) in omega arith) in
         let alone : slice_get (parents program) class ≡ None =
         slice_get_past (parents program) class (let l = length-map program.classes
-        (λ class. parent_named (class_names program) class.parent) in omega arith) in
+        (λ class. parent_named (all_class_names program) class.parent) in omega arith) in
         ap (λ o. unwrap_or o []) none ∙ sym (chain_fields (length program.classes) program class alone
         (slice_get_past program.classes class past))
 

@@ -15,14 +15,14 @@ count_elements (Element name index) = 1 + count_elements index
 count_elements (Binary at op left right) = count_elements left + count_elements right
 
 -- whether an element of an expression is of this array
-abbrev pub meets : Source → State → Value → Expression → Bool
-meets program st array (Number at word) = false
-meets program st array (Null at) = false
-meets program st array (Variable name) = false
-meets program st array (Element name index) =
-    same_value array (variable_value program st name.text) || meets program st array index
-meets program st array (Binary at op left right) =
-    meets program st array left || meets program st array right
+abbrev pub meets_array : Source → State → Value → Expression → Bool
+meets_array program st array (Number at word) = false
+meets_array program st array (Null at) = false
+meets_array program st array (Variable name) = false
+meets_array program st array (Element name index) =
+    same_value array (variable_value program st name.text) || meets_array program st array index
+meets_array program st array (Binary at op left right) =
+    meets_array program st array left || meets_array program st array right
 
 -- the elements of an expression that may be there
 abbrev pub reads_of : Option Expression → List Ident

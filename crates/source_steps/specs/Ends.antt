@@ -9,7 +9,7 @@ use Rattle.source_store.specs.inverse_rules.Inverse.{inverse_statement}
 use Rattle.source_store.specs.roopl_semantics.Run.{Run, More, ◌>>=◌, give, spend, fault_if}
 use Rattle.source_store.specs.roopl_semantics.Store.{State, Value, Word, Nil, Head, OfClass, OfInts, OfObjects}
 use Rattle.source_store.specs.roopl_semantics.Store.{is_nil, number_of, same_value, object_at, zero_values}
-use Rattle.source_store.specs.roopl_semantics.Execution.{Setting, statement, counted, one_less}
+use Rattle.source_store.specs.roopl_semantics.Execution.{Setting, statement, count_changed, one_less}
 use Rattle.source_store.specs.roopl_semantics.Execution.{same_cell, is_of_class, all_zero, allocated, freed}
 use Rattle.source_store.specs.roopl_semantics.Execution.{NOT_NIL}
 use Rattle.source_store.specs.roopl_semantics.Execution.{NOT_SAME, CLASS_DIFFERS}
@@ -22,7 +22,7 @@ use Rattle.source_store.specs.HeapView.{Kept as Heap}
 use Rattle.source_steps.specs.declared.stop.Stop.{Stop}
 use Rattle.source_steps.specs.declared.scope.Scope.{Scope as Chain}
 use Rattle.source_steps.specs.declared.expressions.Setting.{Setting as Here}
-use Rattle.source_steps.specs.Metered.{Metered, metered, Gives}
+use Rattle.source_steps.specs.Metered.{Metered, metered, MeteredGives}
 use Rattle.source_steps.specs.StateView.{state_of, setting_of}
 
 -- a statement as it stands, or undone
@@ -31,10 +31,10 @@ turned true s = inverse_statement s
 turned false s = s
 
 -- a call ends in the state and with the fuel that the run gives
-abbrev pub Ends : {E : Type 0} → Here → Chain → Result E Stop → Heap → List Held → ℕ → Metered State
+abbrev pub EndsAs : {E : Type 0} → Here → Chain → Result E Stop → Heap → List Held → ℕ → Metered State
     → Type 0
-Ends here scope result heap values left run =
-    Gives (λ u. state_of here scope heap values) result left run
+EndsAs here scope result heap values left run =
+    MeteredGives (λ u. state_of here scope heap values) result left run
 
 -- what a statement that holds no block comes to
 abbrev pub does_simply : Here → ℕ → Statement → State → Metered State
@@ -45,18 +45,18 @@ abbrev pub uncopied : Cell → Cell → State → Run State
 uncopied a b st = do
   _ ← fault_if NIL (is_nil (read st a))
   _ ← fault_if NOT_SAME (not (same_value (read st a) (read st b)) || same_cell a b)
-  give (counted one_less (written st b Nil) (number_of (read st a)))
+  give (count_changed one_less (written st b Nil) (number_of (read st a)))
 
 -- after the places and the check of a `copy`
 abbrev pub copied : Cell → Cell → State → Run State
 copied a b st = do
   _ ← fault_if NIL (is_nil (read st a))
   _ ← fault_if NOT_NIL (not (is_nil (read st b)))
-  give (counted suc (written st b (read st a)) (number_of (read st a)))
+  give (count_changed suc (written st b (read st a)) (number_of (read st a)))
 
 -- after the place and the check of a `new` of an object
-abbrev pub made : Setting → List ℕ → Cell → State → Run State
-made setting class cell st = do
+abbrev pub object_made : Setting → List ℕ → Cell → State → Run State
+object_made setting class cell st = do
   _ ← fault_if NOT_NIL (not (is_nil (read st cell)))
   _ ← spend (setting.limits.heap + 1)
   let number = unwrap_or (class_number setting.program class) 0

@@ -20,21 +20,21 @@ abbrev pub went : {A : Type 0} → A → Option ℕ → Metered A
 went result (Some left) = Went result left
 went result None = Out
 
-abbrev pub stopped : {A : Type 0} → ℕ → Option ℕ → Metered A
-stopped code (Some left) = Stopped code left
-stopped code None = Out
+abbrev pub stopped_metered : {A : Type 0} → ℕ → Option ℕ → Metered A
+stopped_metered code (Some left) = Stopped code left
+stopped_metered code None = Out
 
 -- what a run comes to with so much fuel
 abbrev pub metered : {A : Type 0} → ℕ → Run A → Metered A
 metered fuel (Done result cost) = went result (left_of fuel cost)
-metered fuel (Fault code cost) = stopped code (left_of fuel cost)
+metered fuel (Fault code cost) = stopped_metered code (left_of fuel cost)
 metered fuel More = Out
 
 -- goes on with the fuel that is left
-abbrev pub chain : {A B : Type 0} → Metered A → (A → ℕ → Metered B) → Metered B
-chain (Went result left) next = next result left
-chain (Stopped code left) next = Stopped code left
-chain Out next = Out
+abbrev pub metered_chain : {A B : Type 0} → Metered A → (A → ℕ → Metered B) → Metered B
+metered_chain (Went result left) next = next result left
+metered_chain (Stopped code left) next = Stopped code left
+metered_chain Out next = Out
 
 -- a run that stopped so; a run that is aborted because memory ran out says nothing
 abbrev pub Failed : {B : Type 0} → Stop → ℕ → Metered B → Type 0
@@ -66,6 +66,6 @@ OnFault (Ok a) it = Unit {0}
 OnFault (Err why) it = IsFault why → it
 
 -- what a call that returned so gave: its value, or why it stopped
-abbrev pub Gives : {A B : Type 0} → (A → B) → Result A Stop → ℕ → Metered B → Type 0
-Gives f (Ok a) left run = run ≡ Went (f a) left
-Gives f (Err why) left run = Failed why left run
+abbrev pub MeteredGives : {A B : Type 0} → (A → B) → Result A Stop → ℕ → Metered B → Type 0
+MeteredGives f (Ok a) left run = run ≡ Went (f a) left
+MeteredGives f (Err why) left run = Failed why left run

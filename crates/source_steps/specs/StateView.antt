@@ -46,9 +46,9 @@ state_of here scope heap values =
     }
 
 -- what a computation gave, or its fault
-abbrev pub seen : {A B : Type 0} → (A → B) → Result A ℕ → Result B ℕ
-seen f (Ok a) = Ok (f a)
-seen f (Err fault) = Err fault
+abbrev pub seen_result : {A B : Type 0} → (A → B) → Result A ℕ → Result B ℕ
+seen_result f (Ok a) = Ok (f a)
+seen_result f (Err fault) = Err fault
 
 -- the element of an array at an index
 abbrev pub element_in : Store → Value → ℕ → Result Cell ℕ

@@ -5,8 +5,8 @@ ghost use Rattle.rpp_tree.specs.Views.{expression_of, lvalue_of};
 ghost use Rattle.source_store.specs.roopl_semantics.Run.{spend as spending};
 ghost use Rattle.source_store.specs.roopl_semantics.Elements.{elements, index_elements, own_element, is_among, kept_apart};
 ghost use Rattle.source_store.specs.ValueView.{value_of};
-ghost use Rattle.source_steps.specs.Apart.{count_elements, meets as meets_in, reads_of};
-ghost use Rattle.source_steps.specs.Metered.{left_of, Gives, metered, IsOwn};
+ghost use Rattle.source_steps.specs.Apart.{count_elements, meets_array as meets_in, reads_of};
+ghost use Rattle.source_steps.specs.Metered.{left_of, MeteredGives, metered, IsOwn};
 ghost use Rattle.source_steps.specs.StateView.{IsFramed, state_of, setting_of};
 
 use crate::cell::variable;
@@ -60,7 +60,7 @@ fn pay_both(fuel: u64, first: Option<&Expr>, second: &Expr) -> Option<u64>
 
 /// Counts the elements of two expressions.
 fn spend_elements(fuel: &mut u64, first: Option<&Expr>, second: &Expr) -> Result<(), Stop>
-    ensures gives { Gives (λ u. tt) result fuel.new
+    ensures gives { MeteredGives (λ u. tt) result fuel.new
         (metered fuel.old
         (spending (length (reads_of (option_map (λ e. expression_of e.now) first.entry)
         ++ elements (expression_of second.now))))) }
@@ -153,7 +153,7 @@ fn reads_apart(
     second: &Expr,
 ) -> Result<(), Stop>
     requires { IsFramed setting.now scope.now heap.now values.now.items }
-    ensures gives { Gives (λ u. tt) result fuel.new
+    ensures gives { MeteredGives (λ u. tt) result fuel.new
         (metered fuel.old (kept_apart (setting_of setting.now).program (name.now ∷ [])
         (reads_of (option_map (λ e. expression_of e.now) first.entry)
         ++ elements (expression_of second.now))
@@ -183,7 +183,7 @@ fn both_apart(
     second: &Expr,
 ) -> Result<(), Stop>
     requires { IsFramed setting.now scope.now heap.now values.now.items }
-    ensures gives { Gives (λ u. tt) result fuel.new
+    ensures gives { MeteredGives (λ u. tt) result fuel.new
         (metered fuel.old (kept_apart (setting_of setting.now).program (name.now ∷ other.now ∷ [])
         (elements (expression_of first.now) ++ elements (expression_of second.now))
         (state_of setting.now scope.now heap.now values.now.items))) }
@@ -219,7 +219,7 @@ pub fn update_apart(
     e: &Expr,
 ) -> Result<(), Stop>
     requires { IsFramed setting.now scope.now heap.now values.now.items }
-    ensures gives { Gives (λ u. tt) result fuel.new
+    ensures gives { MeteredGives (λ u. tt) result fuel.new
         (metered fuel.old (kept_apart (setting_of setting.now).program
         (own_element (lvalue_of place.now))
         (index_elements (lvalue_of place.now) ++ elements (expression_of e.now))
@@ -252,7 +252,7 @@ pub fn place_apart(
     place: &Place,
 ) -> Result<(), Stop>
     requires { IsFramed setting.now scope.now heap.now values.now.items }
-    ensures gives { Gives (λ u. tt) result fuel.new
+    ensures gives { MeteredGives (λ u. tt) result fuel.new
         (metered fuel.old (kept_apart (setting_of setting.now).program
         (own_element (lvalue_of place.now)) (index_elements (lvalue_of place.now))
         (state_of setting.now scope.now heap.now values.now.items))) }
@@ -276,7 +276,7 @@ pub fn copy_apart(
     target: &Place,
 ) -> Result<(), Stop>
     requires { IsFramed setting.now scope.now heap.now values.now.items }
-    ensures gives { Gives (λ u. tt) result fuel.new
+    ensures gives { MeteredGives (λ u. tt) result fuel.new
         (metered fuel.old (kept_apart (setting_of setting.now).program
         (own_element (lvalue_of target.now))
         (index_elements (lvalue_of source.now) ++ index_elements (lvalue_of target.now))
@@ -313,7 +313,7 @@ pub fn swap_apart(
     right: &Place,
 ) -> Result<(), Stop>
     requires { IsFramed setting.now scope.now heap.now values.now.items }
-    ensures gives { Gives (λ u. tt) result fuel.new
+    ensures gives { MeteredGives (λ u. tt) result fuel.new
         (metered fuel.old (kept_apart (setting_of setting.now).program
         (own_element (lvalue_of left.now) ++ own_element (lvalue_of right.now))
         (index_elements (lvalue_of left.now) ++ index_elements (lvalue_of right.now))

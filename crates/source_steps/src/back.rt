@@ -3,9 +3,9 @@ ghost use Rattle.std.specs.Prelude.{◌≡◌, ◌≤◌, ◌<◌, ◌^◌, OnOk
 ghost use Rattle.rpp_tree.specs.Tree.{Object as AnObject};
 ghost use Rattle.rpp_tree.specs.Views.{creation_of, expression_of, lvalue_of};
 ghost use Rattle.source_store.specs.meaning_machine.Reversed.{untaken, ungiven, unmade as unmade_in, undeleted as undeleted_in};
-ghost use Rattle.source_store.specs.ValueView.{value_of, values_of, head_of};
-ghost use Rattle.source_steps.specs.CellView.{cell_of};
-ghost use Rattle.source_steps.specs.Ends.{Ends, array_head, first_element, there_again, array_again, array_undeleted};
+ghost use Rattle.source_store.specs.ValueView.{value_of, values_of, kept_head};
+ghost use Rattle.source_steps.specs.CellView.{cell_view};
+ghost use Rattle.source_steps.specs.Ends.{EndsAs, array_head, first_element, there_again, array_again, array_undeleted};
 ghost use Rattle.source_steps.specs.Metered.{metered, OnFault};
 ghost use Rattle.source_steps.specs.StateView.{IsFramed, state_of, setting_of};
 
@@ -29,8 +29,8 @@ fn untake(
     cell: Cell,
 ) -> Result<(), Stop>
     requires framed { IsFramed setting.now scope.now heap.old values.old.items }
-    ensures ends { Ends setting.now scope.now result heap.new values.new.items fuel.new
-        (metered fuel.old (untaken heap.old.log (cell_of cell)
+    ensures ends { EndsAs setting.now scope.now result heap.new values.new.items fuel.new
+        (metered fuel.old (untaken heap.old.log (cell_view cell)
         (state_of setting.now scope.now heap.old values.old.items))) }
     ensures framed { OnOk result (IsFramed setting.now scope.now heap.new values.new.items) }
     ensures stays { OnFault result ((heap.new ≡ heap.old) × (values.new ≡ values.old)) }
@@ -53,7 +53,7 @@ pub fn unmade(
     place: &Place,
 ) -> Result<(), Stop>
     requires framed { IsFramed setting.now scope.now heap.old values.old.items }
-    ensures ends { Ends setting.now scope.now result heap.new values.new.items fuel.new
+    ensures ends { EndsAs setting.now scope.now result heap.new values.new.items fuel.new
         (metered fuel.old (unmade_in (setting_of setting.now) (lvalue_of place.now)
         (state_of setting.now scope.now heap.old values.old.items))) }
     ensures framed { OnOk result (IsFramed setting.now scope.now heap.new values.new.items) }
@@ -77,8 +77,8 @@ fn ungive(
 ) -> Result<(), Stop>
     requires framed { IsFramed setting.now scope.now heap.old values.old.items }
     requires small { length cells.items < 2 ^ 31 }
-    ensures ends { Ends setting.now scope.now result heap.new values.new.items fuel.new
-        (metered fuel.old (ungiven heap.old.log (cell_of cell) (head_of head)
+    ensures ends { EndsAs setting.now scope.now result heap.new values.new.items fuel.new
+        (metered fuel.old (ungiven heap.old.log (cell_view cell) (kept_head head)
         (values_of cells.items) (state_of setting.now scope.now heap.old values.old.items))) }
     ensures framed { OnOk result (IsFramed setting.now scope.now heap.new values.new.items) }
     ensures stays { OnFault result ((heap.new ≡ heap.old) × (values.new ≡ values.old)) }
@@ -104,8 +104,8 @@ fn put_object(
     class: &Text,
 ) -> Result<(), Stop>
     requires framed { IsFramed setting.now scope.now heap.old values.old.items }
-    ensures ends { Ends setting.now scope.now result heap.new values.new.items fuel.new
-        (metered fuel.old (there_again (setting_of setting.now) class.now (cell_of cell)
+    ensures ends { EndsAs setting.now scope.now result heap.new values.new.items fuel.new
+        (metered fuel.old (there_again (setting_of setting.now) class.now (cell_view cell)
         (state_of setting.now scope.now heap.old values.old.items))) }
     ensures framed { OnOk result (IsFramed setting.now scope.now heap.new values.new.items) }
     ensures stays { OnFault result ((heap.new ≡ heap.old) × (values.new ≡ values.old)) }
@@ -136,7 +136,7 @@ pub fn undelete_object(
     place: &Place,
 ) -> Result<(), Stop>
     requires framed { IsFramed setting.now scope.now heap.old values.old.items }
-    ensures ends { Ends setting.now scope.now result heap.new values.new.items fuel.new
+    ensures ends { EndsAs setting.now scope.now result heap.new values.new.items fuel.new
         (metered fuel.old (undeleted_in (setting_of setting.now) (AnObject class.now)
         (lvalue_of place.now) (state_of setting.now scope.now heap.old values.old.items))) }
     ensures framed { OnOk result (IsFramed setting.now scope.now heap.new values.new.items) }
@@ -160,8 +160,8 @@ fn put_array(
     size: Value,
 ) -> Result<(), Stop>
     requires framed { IsFramed setting.now scope.now heap.old values.old.items }
-    ensures ends { Ends setting.now scope.now result heap.new values.new.items fuel.new
-        (metered fuel.old (array_again (cell_of cell) (array_head kind) (first_element kind)
+    ensures ends { EndsAs setting.now scope.now result heap.new values.new.items fuel.new
+        (metered fuel.old (array_again (cell_view cell) (array_head kind) (first_element kind)
         (value_of size) (state_of setting.now scope.now heap.old values.old.items))) }
     ensures framed { OnOk result (IsFramed setting.now scope.now heap.new values.new.items) }
     ensures stays { OnFault result ((heap.new ≡ heap.old) × (values.new ≡ values.old)) }
@@ -196,7 +196,7 @@ fn undelete_array(
     size: &Expr,
 ) -> Result<(), Stop>
     requires framed { IsFramed setting.now scope.now heap.old values.old.items }
-    ensures ends { Ends setting.now scope.now result heap.new values.new.items fuel.new
+    ensures ends { EndsAs setting.now scope.now result heap.new values.new.items fuel.new
         (metered fuel.old (array_undeleted (setting_of setting.now) (lvalue_of place.now)
         (expression_of size.now) (array_head kind) (first_element kind)
         (state_of setting.now scope.now heap.old values.old.items))) }
@@ -220,7 +220,7 @@ pub fn undeleted(
     place: &Place,
 ) -> Result<(), Stop>
     requires framed { IsFramed setting.now scope.now heap.old values.old.items }
-    ensures ends { Ends setting.now scope.now result heap.new values.new.items fuel.new
+    ensures ends { EndsAs setting.now scope.now result heap.new values.new.items fuel.new
         (metered fuel.old (undeleted_in (setting_of setting.now) (creation_of made.now)
         (lvalue_of place.now) (state_of setting.now scope.now heap.old values.old.items))) }
     ensures framed { OnOk result (IsFramed setting.now scope.now heap.new values.new.items) }

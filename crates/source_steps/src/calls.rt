@@ -3,9 +3,9 @@ ghost use Rattle.std.specs.Prelude.{◌≡◌, ◌≤◌, ◌++◌, IfOk, OnOk, 
 ghost use Rattle.source_store.specs.roopl_semantics.Value.{read};
 ghost use Rattle.source_store.specs.roopl_semantics.Execution.{cells_named, moved_out, moved_back};
 ghost use Rattle.source_store.specs.ValueView.{value_of, values_of};
-ghost use Rattle.source_steps.specs.CellView.{cell_of};
+ghost use Rattle.source_steps.specs.CellView.{cell_view};
 ghost use Rattle.source_steps.specs.Metered.{metered, IsOwn};
-ghost use Rattle.source_steps.specs.Ends.{Ends};
+ghost use Rattle.source_steps.specs.Ends.{EndsAs};
 ghost use Rattle.source_steps.specs.StateView.{IsFramed, state_of, setting_of};
 
 use crate::cell::{Cell, cell_of_name, read_cell, write_cell};
@@ -29,7 +29,7 @@ pub fn name_cells(
     names: &[Ident],
 ) -> Result<(), NoMemory>
     requires { IsFramed setting.now scope.now heap.now values.now }
-    ensures { OnOk result (map cell_of cells.new.items ≡ map cell_of cells.old.items
+    ensures { OnOk result (map cell_view cells.new.items ≡ map cell_view cells.old.items
         ++ cells_named (setting_of setting.now) (state_of setting.now scope.now heap.now values.now)
         names.now) }
 {
@@ -50,7 +50,7 @@ pub fn read_cells(
 ) -> Result<Vec<Value>, NoMemory>
     requires { IsFramed setting.now scope.now heap.now values.now }
     ensures { IfOk result (λ moved. values_of moved.items
-        ≡ map (read (state_of setting.now scope.now heap.now values.now)) (map cell_of cells.now)) }
+        ≡ map (read (state_of setting.now scope.now heap.now values.now)) (map cell_view cells.now)) }
 {
     let mut moved = Vec::new(alloc);
     for cell in cells {
@@ -69,7 +69,7 @@ pub fn move_out(
 )
     requires { IsFramed setting.now scope.now heap.old values.old.items }
     ensures moved { state_of setting.now scope.now heap.new values.new.items
-        ≡ moved_out (map cell_of cells.now)
+        ≡ moved_out (map cell_view cells.now)
         (state_of setting.now scope.now heap.old values.old.items) }
     ensures framed { IsFramed setting.now scope.now heap.new values.new.items }
 {
@@ -91,8 +91,8 @@ pub fn move_back(
     moved: &[Value],
 ) -> Result<(), Stop>
     requires { IsFramed setting.now scope.now heap.old values.old.items }
-    ensures ends { Ends setting.now scope.now result heap.new values.new.items fuel.new
-        (metered fuel.old (moved_back (map cell_of cells.now) (values_of moved.now)
+    ensures ends { EndsAs setting.now scope.now result heap.new values.new.items fuel.new
+        (metered fuel.old (moved_back (map cell_view cells.now) (values_of moved.now)
         (state_of setting.now scope.now heap.old values.old.items))) }
     ensures stays { OnErr result (state_of setting.now scope.now heap.new values.new.items
         ≡ state_of setting.now scope.now heap.old values.old.items) }
@@ -130,7 +130,7 @@ pub fn cells_of(
     names: &[Ident],
 ) -> Result<Vec<Cell>, Stop>
     requires { IsFramed setting.now scope.now heap.now values.now.items }
-    ensures { MatchResult result (λ cells. map cell_of cells.items
+    ensures { MatchResult result (λ cells. map cell_view cells.items
         ≡ cells_named (setting_of setting.now)
         (state_of setting.now scope.now heap.now values.now.items) names.now)
         (λ why. why ≡ Stop.Lacks Lack.NoMemory) }
@@ -157,8 +157,8 @@ pub fn return_values(
 ) -> Result<(), Stop>
     requires framed { IsFramed setting.now scope.now heap.old values.old.items }
     requires same { length held.now ≡ length receiver.now }
-    ensures ends { Ends setting.now scope.now result heap.new values.new.items fuel.new
-        (metered fuel.old (moved_back (map cell_of receiver.now ++ map cell_of args.now)
+    ensures ends { EndsAs setting.now scope.now result heap.new values.new.items fuel.new
+        (metered fuel.old (moved_back (map cell_view receiver.now ++ map cell_view args.now)
         (values_of held.now ++ values_of inside.now)
         (state_of setting.now scope.now heap.old values.old.items))) }
     ensures stays { OnErr result (state_of setting.now scope.now heap.new values.new.items

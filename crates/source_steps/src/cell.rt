@@ -7,7 +7,7 @@ ghost use Rattle.source_store.specs.roopl_semantics.Value.{read, written, cell_n
 ghost use Rattle.source_store.specs.class_rules.Members.{field_of};
 ghost use Rattle.source_store.specs.class_rules.Table.{field_in as field_in_table};
 ghost use Rattle.source_store.specs.ValueView.{value_of, values_of, object_of};
-ghost use Rattle.source_steps.specs.CellView.{cell_of};
+ghost use Rattle.source_steps.specs.CellView.{cell_view};
 ghost use Rattle.source_steps.specs.StateView.{IsFramed, names_of, frame_of, state_of, setting_of};
 
 use crate::expressions::Setting;
@@ -62,7 +62,7 @@ pub fn read_cell(
     cell: Cell,
 ) -> Value
     requires { IsFramed setting.now scope.now heap.now values.now }
-    ensures { value_of result ≡ read (state_of setting.now scope.now heap.now values.now) (cell_of cell) }
+    ensures { value_of result ≡ read (state_of setting.now scope.now heap.now values.now) (cell_view cell) }
 {
     match cell {
         Cell::Slot(index) => value_of_slot(scope, values, index),
@@ -144,10 +144,10 @@ pub fn cell_and_value(
     name: &Text,
 ) -> (Cell, Value)
     requires { IsFramed setting.now scope.now heap.now values.now }
-    ensures cell { cell_of result.0 ≡ cell_named (setting_of setting.now).program
+    ensures cell { cell_view result.0 ≡ cell_named (setting_of setting.now).program
         (state_of setting.now scope.now heap.now values.now) name.now }
     ensures value { value_of result.1 ≡ read
-        (state_of setting.now scope.now heap.now values.now) (cell_of result.0) }
+        (state_of setting.now scope.now heap.now values.now) (cell_view result.0) }
 {
     match slot(scope, values, name) {
         Some(index) => (Cell::Slot(index), value_of_slot(scope, values, index)),
@@ -174,7 +174,7 @@ pub fn cell_of_name(
     name: &Text,
 ) -> Cell
     requires { IsFramed setting.now scope.now heap.now values.now }
-    ensures { cell_of result ≡ cell_named (setting_of setting.now).program
+    ensures { cell_view result ≡ cell_named (setting_of setting.now).program
         (state_of setting.now scope.now heap.now values.now) name.now }
 {
     match slot(scope, values, name) {
@@ -197,7 +197,7 @@ pub fn write_cell(
 )
     requires { IsFramed setting.now scope.now heap.old values.old.items }
     ensures written { state_of setting.now scope.now heap.new values.new.items
-        ≡ written (state_of setting.now scope.now heap.old values.old.items) (cell_of cell)
+        ≡ written (state_of setting.now scope.now heap.old values.old.items) (cell_view cell)
         (value_of value) }
     ensures framed { IsFramed setting.now scope.now heap.new values.new.items }
 {

@@ -3,8 +3,8 @@ ghost use Rattle.std.specs.Prelude.{◌≡◌, ◌≤◌, OnOk, not, IfErr};
 ghost use Rattle.rpp_tree.specs.Tree.{Copy as CopyTo, Uncopy};
 ghost use Rattle.rpp_tree.specs.Views.{lvalue_of};
 ghost use Rattle.source_store.specs.roopl_semantics.Execution.{same_cell};
-ghost use Rattle.source_steps.specs.CellView.{cell_of};
-ghost use Rattle.source_steps.specs.Ends.{Ends, does_simply, copied, uncopied};
+ghost use Rattle.source_steps.specs.CellView.{cell_view};
+ghost use Rattle.source_steps.specs.Ends.{EndsAs, does_simply, copied, uncopied};
 ghost use Rattle.source_steps.specs.Metered.{metered, IsOwn, IsOwnOrFull, OnFault};
 ghost use Rattle.source_steps.specs.StateView.{IsFramed, state_of, setting_of};
 
@@ -20,7 +20,7 @@ use source_store::{Heap, Value};
 
 /// Whether two cells are one.
 fn is_same_cell(a: Cell, b: Cell) -> bool
-    ensures { result ≡ same_cell (cell_of a) (cell_of b) }
+    ensures { result ≡ same_cell (cell_view a) (cell_view b) }
 {
     match (a, b) {
         (Cell::Slot(a), Cell::Slot(b)) => a == b,
@@ -42,8 +42,8 @@ fn refer(
     b: Cell,
 ) -> Result<(), Stop>
     requires { IsFramed setting.now scope.now heap.old values.old.items }
-    ensures ends { Ends setting.now scope.now result heap.new values.new.items fuel.new
-        (metered fuel.old (copied (cell_of a) (cell_of b)
+    ensures ends { EndsAs setting.now scope.now result heap.new values.new.items fuel.new
+        (metered fuel.old (copied (cell_view a) (cell_view b)
         (state_of setting.now scope.now heap.old values.old.items))) }
     ensures framed { OnOk result (IsFramed setting.now scope.now heap.new values.new.items) }
     ensures stays { OnFault result ((heap.new ≡ heap.old) × (values.new ≡ values.old)) }
@@ -73,7 +73,7 @@ pub fn copy(
     target: &Place,
 ) -> Result<(), Stop>
     requires { IsFramed setting.now scope.now heap.old values.old.items }
-    ensures ends { Ends setting.now scope.now result heap.new values.new.items fuel.new
+    ensures ends { EndsAs setting.now scope.now result heap.new values.new.items fuel.new
         (does_simply setting.now fuel.old
         (CopyTo at kind.now (lvalue_of source.now) (lvalue_of target.now))
         (state_of setting.now scope.now heap.old values.old.items)) }
@@ -99,8 +99,8 @@ fn take_back(
     b: Cell,
 ) -> Result<(), Stop>
     requires { IsFramed setting.now scope.now heap.old values.old.items }
-    ensures ends { Ends setting.now scope.now result heap.new values.new.items fuel.new
-        (metered fuel.old (uncopied (cell_of a) (cell_of b)
+    ensures ends { EndsAs setting.now scope.now result heap.new values.new.items fuel.new
+        (metered fuel.old (uncopied (cell_view a) (cell_view b)
         (state_of setting.now scope.now heap.old values.old.items))) }
     ensures framed { OnOk result (IsFramed setting.now scope.now heap.new values.new.items) }
     ensures stays { OnFault result ((heap.new ≡ heap.old) × (values.new ≡ values.old)) }
@@ -129,7 +129,7 @@ pub fn uncopy(
     target: &Place,
 ) -> Result<(), Stop>
     requires { IsFramed setting.now scope.now heap.old values.old.items }
-    ensures ends { Ends setting.now scope.now result heap.new values.new.items fuel.new
+    ensures ends { EndsAs setting.now scope.now result heap.new values.new.items fuel.new
         (does_simply setting.now fuel.old
         (Uncopy at kind.now (lvalue_of source.now) (lvalue_of target.now))
         (state_of setting.now scope.now heap.old values.old.items)) }

@@ -6,9 +6,9 @@ ghost use Rattle.source_store.specs.roopl_semantics.Operators.{truth_word, opera
 ghost use Rattle.source_store.specs.roopl_semantics.Store.{Word, number_of};
 ghost use Rattle.source_store.specs.roopl_semantics.Value.{element_cell, element_of, value as value_in, cell_of as place_in, combined};
 ghost use Rattle.source_store.specs.ValueView.{value_of};
-ghost use Rattle.source_steps.specs.CellView.{cell_of};
+ghost use Rattle.source_steps.specs.CellView.{cell_view};
 ghost use Rattle.source_steps.specs.Metered.{left_of};
-ghost use Rattle.source_steps.specs.StateView.{IsFramed, element_in, state_of, setting_of, seen};
+ghost use Rattle.source_steps.specs.StateView.{IsFramed, element_in, state_of, setting_of, seen_result};
 
 use crate::cell::{Cell, cell_of_name, read_cell, variable};
 use crate::scope::Scope;
@@ -138,7 +138,7 @@ pub fn combine(op: BinOp, left: Value, right: Value) -> Value
 
 /// The element of an array at an index.
 fn element(heap: &Heap, array: Value, index: u32) -> Result<Cell, u32>
-    ensures { seen cell_of result ≡ element_in (heap.now.store) (value_of array) index }
+    ensures { seen_result cell_view result ≡ element_in (heap.now.store) (value_of array) index }
 {
     match array {
         Value::Name(name) => {
@@ -185,8 +185,8 @@ pub fn leaf(
 
 /// An operator on a value and the value of the second operand, or the fault of that.
 fn combined_with(op: BinOp, first: Value, second: Result<Value, u32>) -> Result<Value, u32>
-    ensures { seen value_of result
-        ≡ combined op (Ok (value_of first)) (seen value_of second) }
+    ensures { seen_result value_of result
+        ≡ combined op (Ok (value_of first)) (seen_result value_of second) }
 {
     match second {
         Ok(second) => Ok(combine(op, first, second)),
@@ -204,7 +204,7 @@ pub fn value(
     e: &Expr,
 ) -> Result<Value, u32>
     requires { IsFramed setting.now scope.now heap.now values.now }
-    ensures { seen value_of result ≡ value_in (setting_of setting.now).program
+    ensures { seen_result value_of result ≡ value_in (setting_of setting.now).program
         (state_of setting.now scope.now heap.now values.now) (expression_of e.now) }
 {
     match e {
@@ -251,7 +251,7 @@ pub fn find(
     place: &Place,
 ) -> Result<Cell, u32>
     requires { IsFramed setting.now scope.now heap.now values.now }
-    ensures { seen cell_of result ≡ place_in (setting_of setting.now).program
+    ensures { seen_result cell_view result ≡ place_in (setting_of setting.now).program
         (state_of setting.now scope.now heap.now values.now) (lvalue_of place.now) }
 {
     let named = cell_of_name(setting, scope, heap, values, &place.name.text);

@@ -6,9 +6,9 @@ ghost use Rattle.rpp_tree.specs.Views.{source_of, creation_of, expression_of, lv
 ghost use Rattle.source_store.specs.class_rules.Classes.{class_fields, class_number};
 ghost use Rattle.source_store.specs.roopl_semantics.Store.{zero_value, zero_values};
 ghost use Rattle.source_store.specs.roopl_semantics.Execution.{allocated, freed, new_array as new_array_in, delete_array as delete_array_in};
-ghost use Rattle.source_store.specs.ValueView.{value_of, values_of, head_of};
-ghost use Rattle.source_steps.specs.CellView.{cell_of};
-ghost use Rattle.source_steps.specs.Ends.{Ends, does_simply, array_head, first_element, new_of, made, filled, made_array, emptied, gone, gone_array};
+ghost use Rattle.source_store.specs.ValueView.{value_of, values_of, kept_head};
+ghost use Rattle.source_steps.specs.CellView.{cell_view};
+ghost use Rattle.source_steps.specs.Ends.{EndsAs, does_simply, array_head, first_element, new_of, object_made, filled, made_array, emptied, gone, gone_array};
 ghost use Rattle.source_steps.specs.Metered.{metered, OnFault};
 ghost use Rattle.source_steps.specs.StateView.{IsFramed, state_of, setting_of};
 
@@ -62,9 +62,9 @@ fn allocate(
 ) -> Result<(), Stop>
     requires framed { IsFramed setting.now scope.now heap.old values.old.items }
     requires small { length cells.items < 2 ^ 31 }
-    ensures ends { Ends setting.now scope.now result heap.new values.new.items fuel.new
-        (metered fuel.old (allocated (setting_of setting.now) (length cells.items) (cell_of cell)
-        (head_of head) (values_of cells.items)
+    ensures ends { EndsAs setting.now scope.now result heap.new values.new.items fuel.new
+        (metered fuel.old (allocated (setting_of setting.now) (length cells.items) (cell_view cell)
+        (kept_head head) (values_of cells.items)
         (state_of setting.now scope.now heap.old values.old.items))) }
     ensures framed { OnOk result (IsFramed setting.now scope.now heap.new values.new.items) }
     ensures stays { OnFault result ((heap.new ≡ heap.old) × (values.new ≡ values.old)) }
@@ -93,8 +93,8 @@ fn make(
     class: &Text,
 ) -> Result<(), Stop>
     requires framed { IsFramed setting.now scope.now heap.old values.old.items }
-    ensures ends { Ends setting.now scope.now result heap.new values.new.items fuel.new
-        (metered fuel.old (made (setting_of setting.now) class.now (cell_of cell)
+    ensures ends { EndsAs setting.now scope.now result heap.new values.new.items fuel.new
+        (metered fuel.old (object_made (setting_of setting.now) class.now (cell_view cell)
         (state_of setting.now scope.now heap.old values.old.items))) }
     ensures framed { OnOk result (IsFramed setting.now scope.now heap.new values.new.items) }
     ensures stays { OnFault result ((heap.new ≡ heap.old) × (values.new ≡ values.old)) }
@@ -117,8 +117,8 @@ fn allocate_object(
     class: &Text,
 ) -> Result<(), Stop>
     requires framed { IsFramed setting.now scope.now heap.old values.old.items }
-    ensures ends { Ends setting.now scope.now result heap.new values.new.items fuel.new
-        (metered fuel.old (new_of (setting_of setting.now) class.now (cell_of cell)
+    ensures ends { EndsAs setting.now scope.now result heap.new values.new.items fuel.new
+        (metered fuel.old (new_of (setting_of setting.now) class.now (cell_view cell)
         (state_of setting.now scope.now heap.old values.old.items))) }
     ensures framed { OnOk result (IsFramed setting.now scope.now heap.new values.new.items) }
     ensures stays { OnFault result ((heap.new ≡ heap.old) × (values.new ≡ values.old)) }
@@ -168,7 +168,7 @@ pub fn new_object(
     place: &Place,
 ) -> Result<(), Stop>
     requires framed { IsFramed setting.now scope.now heap.old values.old.items }
-    ensures ends { Ends setting.now scope.now result heap.new values.new.items fuel.new
+    ensures ends { EndsAs setting.now scope.now result heap.new values.new.items fuel.new
         (does_simply setting.now fuel.old (New at (AnObject class.now) (lvalue_of place.now))
         (state_of setting.now scope.now heap.old values.old.items)) }
     ensures framed { OnOk result (IsFramed setting.now scope.now heap.new values.new.items) }
@@ -191,7 +191,7 @@ pub(crate) fn element_of(kind: Option<u32>) -> Value
 }
 
 pub(crate) fn head_of_array(kind: Option<u32>, length: u32) -> Head
-    ensures { head_of result ≡ array_head kind length }
+    ensures { kept_head result ≡ array_head kind length }
 {
     match kind {
         None => Head::Ints(length),
@@ -219,8 +219,8 @@ fn allocate_array(
 ) -> Result<(), Stop>
     requires framed { IsFramed setting.now scope.now heap.old values.old.items }
     requires small { count < 2 ^ 31 }
-    ensures ends { Ends setting.now scope.now result heap.new values.new.items fuel.new
-        (metered fuel.old (allocated (setting_of setting.now) count (cell_of cell)
+    ensures ends { EndsAs setting.now scope.now result heap.new values.new.items fuel.new
+        (metered fuel.old (allocated (setting_of setting.now) count (cell_view cell)
         (array_head kind count) (replicate count (first_element kind))
         (state_of setting.now scope.now heap.old values.old.items))) }
     ensures framed { OnOk result (IsFramed setting.now scope.now heap.new values.new.items) }
@@ -255,8 +255,8 @@ fn make_array(
     size: Value,
 ) -> Result<(), Stop>
     requires framed { IsFramed setting.now scope.now heap.old values.old.items }
-    ensures ends { Ends setting.now scope.now result heap.new values.new.items fuel.new
-        (metered fuel.old (made_array (setting_of setting.now) (cell_of cell) (array_head kind)
+    ensures ends { EndsAs setting.now scope.now result heap.new values.new.items fuel.new
+        (metered fuel.old (made_array (setting_of setting.now) (cell_view cell) (array_head kind)
         (first_element kind) (value_of size)
         (state_of setting.now scope.now heap.old values.old.items))) }
     ensures framed { OnOk result (IsFramed setting.now scope.now heap.new values.new.items) }
@@ -283,8 +283,8 @@ fn fill_array(
 ) -> Result<(), Stop>
     requires framed { IsFramed setting.now scope.now heap.old values.old.items }
     requires small { count < 2 ^ 31 }
-    ensures ends { Ends setting.now scope.now result heap.new values.new.items fuel.new
-        (metered fuel.old (filled (setting_of setting.now) (cell_of cell) (array_head kind)
+    ensures ends { EndsAs setting.now scope.now result heap.new values.new.items fuel.new
+        (metered fuel.old (filled (setting_of setting.now) (cell_view cell) (array_head kind)
         (first_element kind) count (state_of setting.now scope.now heap.old values.old.items))) }
     ensures framed { OnOk result (IsFramed setting.now scope.now heap.new values.new.items) }
     ensures stays { OnFault result ((heap.new ≡ heap.old) × (values.new ≡ values.old)) }
@@ -307,7 +307,7 @@ pub fn new_array(
     size: &Expr,
 ) -> Result<(), Stop>
     requires framed { IsFramed setting.now scope.now heap.old values.old.items }
-    ensures ends { Ends setting.now scope.now result heap.new values.new.items fuel.new
+    ensures ends { EndsAs setting.now scope.now result heap.new values.new.items fuel.new
         (metered fuel.old (new_array_in (setting_of setting.now) (lvalue_of place.now)
         (expression_of size.now) (array_head kind) (first_element kind)
         (state_of setting.now scope.now heap.old values.old.items))) }
@@ -331,7 +331,7 @@ fn free(
 ) -> Result<(), Lack>
     requires framed { IsFramed setting.now scope.now heap.old values.old.items }
     ensures freed { OnOk result (state_of setting.now scope.now heap.new values.new.items
-        ≡ freed (setting_of setting.now) (cell_of cell) name
+        ≡ freed (setting_of setting.now) (cell_view cell) name
         (state_of setting.now scope.now heap.old values.old.items)) }
     ensures framed { OnOk result (IsFramed setting.now scope.now heap.new values.new.items) }
 {
@@ -352,9 +352,9 @@ fn empty_out(
     cells: u32,
 ) -> Result<(), Stop>
     requires framed { IsFramed setting.now scope.now heap.old values.old.items }
-    ensures ends { Ends setting.now scope.now result heap.new values.new.items fuel.new
+    ensures ends { EndsAs setting.now scope.now result heap.new values.new.items fuel.new
         (metered fuel.old (emptied (setting_of setting.now)
-        ((setting_of setting.now).limits.heap + 1 + cells) (cell_of cell) name
+        ((setting_of setting.now).limits.heap + 1 + cells) (cell_view cell) name
         (state_of setting.now scope.now heap.old values.old.items))) }
     ensures framed { OnOk result (IsFramed setting.now scope.now heap.new values.new.items) }
     ensures stays { OnFault result ((heap.new ≡ heap.old) × (values.new ≡ values.old)) }
@@ -377,8 +377,8 @@ fn drop_object(
     class: &Text,
 ) -> Result<(), Stop>
     requires framed { IsFramed setting.now scope.now heap.old values.old.items }
-    ensures ends { Ends setting.now scope.now result heap.new values.new.items fuel.new
-        (metered fuel.old (gone (setting_of setting.now) class.now (cell_of cell)
+    ensures ends { EndsAs setting.now scope.now result heap.new values.new.items fuel.new
+        (metered fuel.old (gone (setting_of setting.now) class.now (cell_view cell)
         (state_of setting.now scope.now heap.old values.old.items))) }
     ensures framed { OnOk result (IsFramed setting.now scope.now heap.new values.new.items) }
     ensures stays { OnFault result ((heap.new ≡ heap.old) × (values.new ≡ values.old)) }
@@ -405,7 +405,7 @@ pub fn delete_object(
     place: &Place,
 ) -> Result<(), Stop>
     requires framed { IsFramed setting.now scope.now heap.old values.old.items }
-    ensures ends { Ends setting.now scope.now result heap.new values.new.items fuel.new
+    ensures ends { EndsAs setting.now scope.now result heap.new values.new.items fuel.new
         (does_simply setting.now fuel.old (Delete at (AnObject class.now) (lvalue_of place.now))
         (state_of setting.now scope.now heap.old values.old.items)) }
     ensures framed { OnOk result (IsFramed setting.now scope.now heap.new values.new.items) }
@@ -428,8 +428,8 @@ fn drop_array(
     size: Value,
 ) -> Result<(), Stop>
     requires framed { IsFramed setting.now scope.now heap.old values.old.items }
-    ensures ends { Ends setting.now scope.now result heap.new values.new.items fuel.new
-        (metered fuel.old (gone_array (setting_of setting.now) (cell_of cell) (value_of size)
+    ensures ends { EndsAs setting.now scope.now result heap.new values.new.items fuel.new
+        (metered fuel.old (gone_array (setting_of setting.now) (cell_view cell) (value_of size)
         (state_of setting.now scope.now heap.old values.old.items))) }
     ensures framed { OnOk result (IsFramed setting.now scope.now heap.new values.new.items) }
     ensures stays { OnFault result ((heap.new ≡ heap.old) × (values.new ≡ values.old)) }
@@ -464,7 +464,7 @@ pub fn delete_array(
     size: &Expr,
 ) -> Result<(), Stop>
     requires framed { IsFramed setting.now scope.now heap.old values.old.items }
-    ensures ends { Ends setting.now scope.now result heap.new values.new.items fuel.new
+    ensures ends { EndsAs setting.now scope.now result heap.new values.new.items fuel.new
         (metered fuel.old (delete_array_in (setting_of setting.now) (lvalue_of place.now)
         (expression_of size.now) (state_of setting.now scope.now heap.old values.old.items))) }
     ensures framed { OnOk result (IsFramed setting.now scope.now heap.new values.new.items) }
@@ -488,7 +488,7 @@ pub fn new_made(
     place: &Place,
 ) -> Result<(), Stop>
     requires framed { IsFramed setting.now scope.now heap.old values.old.items }
-    ensures ends { Ends setting.now scope.now result heap.new values.new.items fuel.new
+    ensures ends { EndsAs setting.now scope.now result heap.new values.new.items fuel.new
         (does_simply setting.now fuel.old (New at (creation_of made.now) (lvalue_of place.now))
         (state_of setting.now scope.now heap.old values.old.items)) }
     ensures framed { OnOk result (IsFramed setting.now scope.now heap.new values.new.items) }
@@ -526,7 +526,7 @@ pub fn delete_made(
     place: &Place,
 ) -> Result<(), Stop>
     requires framed { IsFramed setting.now scope.now heap.old values.old.items }
-    ensures ends { Ends setting.now scope.now result heap.new values.new.items fuel.new
+    ensures ends { EndsAs setting.now scope.now result heap.new values.new.items fuel.new
         (does_simply setting.now fuel.old (Delete at (creation_of made.now) (lvalue_of place.now))
         (state_of setting.now scope.now heap.old values.old.items)) }
     ensures framed { OnOk result (IsFramed setting.now scope.now heap.new values.new.items) }

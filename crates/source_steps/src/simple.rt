@@ -4,7 +4,7 @@ ghost use Rattle.rpp_tree.specs.Tree.{Update, Swap, Whole};
 ghost use Rattle.rpp_tree.specs.Views.{expression_of, lvalue_of};
 ghost use Rattle.source_store.specs.inverse_rules.Inverse.{inverse_operator, call_direction};
 ghost use Rattle.source_store.specs.roopl_semantics.Operators.{updated};
-ghost use Rattle.source_steps.specs.Ends.{Ends, does_simply};
+ghost use Rattle.source_steps.specs.Ends.{EndsAs, does_simply};
 ghost use Rattle.source_steps.specs.Metered.{IsOwn, OnFault};
 ghost use Rattle.source_steps.specs.StateView.{IsFramed, state_of, setting_of};
 
@@ -42,7 +42,7 @@ fn update_variable(
     e: &Expr,
 ) -> Result<(), Stop>
     requires { IsFramed setting.now scope.now heap.old values.old.items }
-    ensures ends { Ends setting.now scope.now result heap.new values.new.items fuel.new
+    ensures ends { EndsAs setting.now scope.now result heap.new values.new.items fuel.new
         (does_simply setting.now fuel.old (Update at op (Whole name.now) (expression_of e.now))
         (state_of setting.now scope.now heap.old values.old.items)) }
     ensures framed { OnOk result (IsFramed setting.now scope.now heap.new values.new.items) }
@@ -71,7 +71,7 @@ fn update_element(
     e: &Expr,
 ) -> Result<(), Stop>
     requires { IsFramed setting.now scope.now heap.old values.old.items }
-    ensures ends { Ends setting.now scope.now result heap.new values.new.items fuel.new
+    ensures ends { EndsAs setting.now scope.now result heap.new values.new.items fuel.new
         (does_simply setting.now fuel.old (Update at op (lvalue_of place.now) (expression_of e.now))
         (state_of setting.now scope.now heap.old values.old.items)) }
     ensures framed { OnOk result (IsFramed setting.now scope.now heap.new values.new.items) }
@@ -101,7 +101,7 @@ pub fn update(
     e: &Expr,
 ) -> Result<(), Stop>
     requires { IsFramed setting.now scope.now heap.old values.old.items }
-    ensures ends { Ends setting.now scope.now result heap.new values.new.items fuel.new
+    ensures ends { EndsAs setting.now scope.now result heap.new values.new.items fuel.new
         (does_simply setting.now fuel.old (Update at op (lvalue_of place.now) (expression_of e.now))
         (state_of setting.now scope.now heap.old values.old.items)) }
     ensures framed { OnOk result (IsFramed setting.now scope.now heap.new values.new.items) }
@@ -127,7 +127,7 @@ pub fn swap(
     right: &Place,
 ) -> Result<(), Stop>
     requires { IsFramed setting.now scope.now heap.old values.old.items }
-    ensures ends { Ends setting.now scope.now result heap.new values.new.items fuel.new
+    ensures ends { EndsAs setting.now scope.now result heap.new values.new.items fuel.new
         (does_simply setting.now fuel.old (Swap at (lvalue_of left.now) (lvalue_of right.now))
         (state_of setting.now scope.now heap.old values.old.items)) }
     ensures framed { OnOk result (IsFramed setting.now scope.now heap.new values.new.items) }

@@ -5,8 +5,8 @@ ghost use Rattle.source_store.specs.roopl_semantics.Execution.{holds};
 ghost use Rattle.source_store.specs.roopl_semantics.Value.{evaluated as evaluated_in, found as found_in};
 ghost use Rattle.source_store.specs.roopl_semantics.Run.{spend as spending, fault_if};
 ghost use Rattle.source_store.specs.ValueView.{value_of};
-ghost use Rattle.source_steps.specs.CellView.{cell_of};
-ghost use Rattle.source_steps.specs.Metered.{Gives, metered, IsOwn};
+ghost use Rattle.source_steps.specs.CellView.{cell_view};
+ghost use Rattle.source_steps.specs.Metered.{MeteredGives, metered, IsOwn};
 ghost use Rattle.source_steps.specs.StateView.{IsFramed, state_of, setting_of};
 
 use crate::cell::{Cell, cell_of_name};
@@ -18,7 +18,7 @@ use source_store::{Heap, Value};
 
 /// Counts.
 pub fn spend(fuel: &mut u64, cost: u64) -> Result<(), Stop>
-    ensures gives { Gives (λ u. tt) result fuel.new (metered fuel.old (spending cost)) }
+    ensures gives { MeteredGives (λ u. tt) result fuel.new (metered fuel.old (spending cost)) }
     ensures less { fuel.new ≤ fuel.old }
     ensures paid { OnOk result (fuel.new + cost ≡ fuel.old) }
     ensures own { IfErr result IsOwn }
@@ -32,7 +32,7 @@ pub fn spend(fuel: &mut u64, cost: u64) -> Result<(), Stop>
 
 /// Stops with the fault if the test holds.
 pub fn refuse(fuel: &mut u64, code: u32, test: bool) -> Result<(), Stop>
-    ensures gives { Gives (λ u. tt) result fuel.new (metered fuel.old (fault_if code test)) }
+    ensures gives { MeteredGives (λ u. tt) result fuel.new (metered fuel.old (fault_if code test)) }
     ensures same { fuel.new ≡ fuel.old }
     ensures own { IfErr result IsOwn }
 {
@@ -52,7 +52,7 @@ fn evaluate_tree(
     e: &Expr,
 ) -> Result<Value, Stop>
     requires { IsFramed setting.now scope.now heap.now values.now.items }
-    ensures gives { Gives value_of result fuel.new
+    ensures gives { MeteredGives value_of result fuel.new
         (metered fuel.old (evaluated_in (setting_of setting.now).program (expression_of e.now)
         (state_of setting.now scope.now heap.now values.now.items))) }
     ensures less { fuel.new ≤ fuel.old }
@@ -81,7 +81,7 @@ fn evaluate_whole(
     e: &Expr,
 ) -> Result<Value, Stop>
     requires { IsFramed setting.now scope.now heap.now values.now.items }
-    ensures gives { Gives value_of result fuel.new
+    ensures gives { MeteredGives value_of result fuel.new
         (metered fuel.old (evaluated_in (setting_of setting.now).program (expression_of e.now)
         (state_of setting.now scope.now heap.now values.now.items))) }
     ensures less { fuel.new ≤ fuel.old }
@@ -124,7 +124,7 @@ pub fn evaluate(
     e: &Expr,
 ) -> Result<Value, Stop>
     requires { IsFramed setting.now scope.now heap.now values.now.items }
-    ensures gives { Gives value_of result fuel.new
+    ensures gives { MeteredGives value_of result fuel.new
         (metered fuel.old (evaluated_in (setting_of setting.now).program (expression_of e.now)
         (state_of setting.now scope.now heap.now values.now.items))) }
     ensures less { fuel.new ≤ fuel.old }
@@ -153,7 +153,7 @@ fn locate_element(
     place: &Place,
 ) -> Result<Cell, Stop>
     requires { IsFramed setting.now scope.now heap.now values.now.items }
-    ensures gives { Gives cell_of result fuel.new
+    ensures gives { MeteredGives cell_view result fuel.new
         (metered fuel.old (found_in (setting_of setting.now).program (lvalue_of place.now)
         (state_of setting.now scope.now heap.now values.now.items))) }
     ensures less { fuel.new ≤ fuel.old }
@@ -182,7 +182,7 @@ pub fn operand(
     e: &Expr,
 ) -> Result<Value, Stop>
     requires { IsFramed setting.now scope.now heap.now values.now.items }
-    ensures gives { Gives value_of result fuel.new
+    ensures gives { MeteredGives value_of result fuel.new
         (metered fuel.old (evaluated_in (setting_of setting.now).program (expression_of e.now)
         (state_of setting.now scope.now heap.now values.now.items))) }
     ensures less { fuel.new ≤ fuel.old }
@@ -213,7 +213,7 @@ pub fn locate(
     place: &Place,
 ) -> Result<Cell, Stop>
     requires { IsFramed setting.now scope.now heap.now values.now.items }
-    ensures gives { Gives cell_of result fuel.new
+    ensures gives { MeteredGives cell_view result fuel.new
         (metered fuel.old (found_in (setting_of setting.now).program (lvalue_of place.now)
         (state_of setting.now scope.now heap.now values.now.items))) }
     ensures less { fuel.new ≤ fuel.old }

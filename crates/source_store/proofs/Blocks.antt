@@ -9,7 +9,7 @@ use Rattle.std.proofs.Math.Nat.{pow-le-pow_right}
 use Rattle.std.specs.Option.{unwrap_or}
 use Rattle.meaning_machine.specs.rpp_words.Order.{IsOrderFor}
 use Rattle.meaning_machine.specs.rpp_words.declared.input.TheConstants.{HEADER_WORDS}
-use Rattle.meaning_machine.specs.buddy_book.Book.{Book, start, take, give, order_for}
+use Rattle.meaning_machine.specs.buddy_book.Book.{Book, start, take, give_back, order_for}
 use Rattle.meaning_machine.specs.buddy_book.Place.{Log, Taken, Given, count_taken, block_of, without_name, with_block, after_request}
 use Rattle.meaning_machine.specs.buddy_book.Place.{place}
 use Rattle.meaning_machine.specs.buddy_book.Shown.{Shown, TakenBlocks, order_in, with_taken, without_taken}
@@ -27,8 +27,8 @@ use Rattle.meaning_machine.proofs.roopl_semantics_laws.Orders.{order_from_one, h
 use Rattle.source_store.specs.declared.object.Object.{Object as Live}
 use Rattle.source_store.specs.declared.requests.Request.{Request as Asked}
 use Rattle.source_store.specs.ValueView.{value_of, values_of, object_of}
-use Rattle.source_store.specs.HeapView.{Kept, kept_of, store_of, request_of, log_of, live_in, block_and_size, block_in}
-use Rattle.source_store.specs.HeapView.{block_at, IsBlock, IsPlaced, IsHeap, SameBlocks, TookBlock}
+use Rattle.source_store.specs.HeapView.{Kept, kept_of, store_of, heap_request, log_of, live_in, block_and_size, live_block_in}
+use Rattle.source_store.specs.HeapView.{live_block_at, IsBlock, IsBookPlaced, IsHeap, SameBlocks, TookBlock}
 use Rattle.source_store.proofs.Tables.{differs, object_named_store, pushed_length, pushed_store, pushed_block}
 use Rattle.source_store.proofs.Tables.{block_before, block_past, cleared_store, cleared_block, other_block}
 
@@ -39,8 +39,8 @@ order_is size k h is =
 
 -- ---- changes that move no block
 
-moved_over : (book : Shown) (f g : ℕ → Option (ℕ × ℕ)) (log : Log) → ((k : ℕ) → g k ≡ f k) → IsPlaced book f log
-    → IsPlaced book g log
+moved_over : (book : Shown) (f g : ℕ → Option (ℕ × ℕ)) (log : Log) → ((k : ℕ) → g k ≡ f k) → IsBookPlaced book f log
+    → IsBookPlaced book g log
 moved_over book f g log same p = record {
   kept = p.kept;
   blocks = p.blocks;
@@ -56,20 +56,20 @@ heap_stays order book table after requests same heap = record {
   same = heap.same;
   next = same.length ∙ heap.next;
   few = let l = same.length in let f = heap.few in omega arith;
-  placed = moved_over book (block_at table) (block_at after) (log_of requests) same.blocks heap.placed;
+  placed = moved_over book (live_block_at table) (live_block_at after) (log_of requests) same.blocks heap.placed;
 }
 
 pub one_more : (requests : List Asked) (request : Asked)
-    → log_of (requests ++ request ∷ []) ≡ request_of request ∷ log_of requests
-one_more requests request = ap reverse (map_push request_of requests request)
-    ∙ reverse-append (map request_of requests) (request_of request ∷ [])
+    → log_of (requests ++ request ∷ []) ≡ heap_request request ∷ log_of requests
+one_more requests request = ap reverse (map_push heap_request requests request)
+    ∙ reverse-append (map heap_request requests) (heap_request request ∷ [])
 
 -- ---- a block taken
 
 some_pair : (x y : ℕ × ℕ) → Some x ≡ Some y → x ≡ y
 some_pair x y e = cc
 
-module _ (book : Shown) (f g : ℕ → Option (ℕ × ℕ)) (log : Log) (p : IsPlaced book f log) where
+module _ (book : Shown) (f g : ℕ → Option (ℕ × ℕ)) (log : Log) (p : IsBookPlaced book f log) where
   module _ (name size k at : ℕ) (after : Book) (is : k ≡ order_of_cells size) (base : book.base ≤ at)
       (took : take book.free k ≡ Some (at - book.base, after))
       (here : g name ≡ Some (at, size)) (there : (n : ℕ) → (n ≡ name → ⊥) → g n ≡ f n) where
@@ -145,14 +145,14 @@ module _ (book : Shown) (f g : ℕ → Option (ℕ × ℕ)) (log : Log) (p : IsP
         ap (λ q. after_request (Given name k) (after_request (Taken name k) q)) p.placed
         ∙ ap (λ t. after_request (Given name k) (with_block name p.blocks t)) took
         ∙ ap (λ t. Some (record {
-          book = give after k (if t then block else block_of p.blocks name);
+          book = give_back after k (if t then block else block_of p.blocks name);
           blocks = if t then p.blocks else (name, block) ∷ without_name p.blocks name;
         })) (eq-eqb name name refl)
         ∙ ap (λ b. Some (record { book = b; blocks = p.blocks }))
         (take_took book.h k block book.free after from p.kept.sound took).undone
         ∙ sym p.placed
 
-    pub took_placed : IsPlaced (record {
+    pub took_placed : IsBookPlaced (record {
       h = book.h;
       base = book.base;
       free = after;
@@ -201,10 +201,10 @@ module _ (book : Shown) (f g : ℕ → Option (ℕ × ℕ)) (log : Log) (p : IsP
     same_block n true e = ap (block_of p.blocks) (eqb-true name n e)
     same_block n false e = block_of_other p.blocks name n (eqb-false name n e)
 
-    pub gave_placed : IsPlaced (record {
+    pub gave_placed : IsBookPlaced (record {
       h = book.h;
       base = book.base;
-      free = give book.free k its_block;
+      free = give_back book.free k its_block;
       taken = without_taken its_block book.taken;
     }) g (Given name k ∷ log)
     gave_placed =
@@ -285,13 +285,13 @@ starts_so order book table first requests from to is items alone nothing =
         kept = rw is (start-kept order 2097152 from to (omega arith));
         blocks = [];
         placed = rw is refl;
-        each = λ name address size e. absurd (no_block name address size (ap (λ t. block_at t name) (sym items) ∙ e));
-        apart = λ n m address size other a b. absurd (no_block n address size (ap (λ t. block_at t n) (sym items) ∙ a));
+        each = λ name address size e. absurd (no_block name address size (ap (λ t. live_block_at t name) (sym items) ∙ e));
+        apart = λ n m address size other a b. absurd (no_block n address size (ap (λ t. live_block_at t n) (sym items) ∙ a));
         undone = tt;
       };
     })
   where
-    no_block : (name address size : ℕ) → block_at (None ∷ Some first ∷ []) name ≡ Some (address, size) → ⊥
+    no_block : (name address size : ℕ) → live_block_at (None ∷ Some first ∷ []) name ≡ Some (address, size) → ⊥
     no_block zero address size e = cc
     no_block (suc zero) address size e = let z = ap (λ b. block_and_size b (length first.cells.items)) (sym alone)
         ∙ e in cc
@@ -308,7 +308,7 @@ with_taken_block book after at k e is = is ∙ ap (λ t. record
 module _ (order : ℕ) (book after : Shown) (table : List (Option Live)) (requests : List Asked) (live : Live)
     (asked : Asked) (k at : ℕ)
     (heap : IsHeap order book table requests) (is : k ≡ order_of_cells (length live.cells.items))
-    (block : live.block ≡ Some at) (request : request_of asked ≡ Taken (length table) k)
+    (block : live.block ≡ Some at) (request : heap_request asked ≡ Taken (length table) k)
     (base : book.base ≤ at) (took : take book.free k ≡ Some (at - book.base, after.free)) where
   log_after : log_of (requests ++ asked ∷ []) ≡ Taken (length table) k ∷ log_of requests
   log_after = one_more requests asked ∙ ap (λ r. r ∷ log_of requests) request
@@ -318,7 +318,7 @@ module _ (order : ℕ) (book after : Shown) (table : List (Option Live)) (reques
       → IsHeap order after (table ++ Some live ∷ []) (requests ++ asked ∷ [])
   took_heap few taken whole =
       let full = with_taken_block book after (at - book.base) k taken whole in
-      let placed = took_placed book (block_at table) (block_at (table ++ Some live ∷ [])) (log_of requests) heap.placed
+      let placed = took_placed book (live_block_at table) (live_block_at (table ++ Some live ∷ [])) (log_of requests) heap.placed
       (length table) (length live.cells.items) k at after.free is base took
       (pushed_block table live (length table) refl ∙ ap (λ b. block_and_size b (length live.cells.items)) block)
       (λ n other. block_before table live n other) in
@@ -327,13 +327,13 @@ module _ (order : ℕ) (book after : Shown) (table : List (Option Live)) (reques
         next = let p = pushed_length table (Some live) in let h = heap.next in let l =
             ap (λ l. count_taken l) log_after in omega arith;
         few = let p = pushed_length table (Some live) in omega arith;
-        placed = subst (λ b. IsPlaced b (block_at (table ++ Some live ∷ [])) (log_of (requests ++ asked ∷ [])))
-            (sym full) (subst (λ l. IsPlaced (record {
+        placed = subst (λ b. IsBookPlaced b (live_block_at (table ++ Some live ∷ [])) (log_of (requests ++ asked ∷ [])))
+            (sym full) (subst (λ l. IsBookPlaced (record {
               h = book.h;
               base = book.base;
               free = after.free;
               taken = with_taken (at - book.base) k book.taken;
-            }) (block_at (table ++ Some live ∷ [])) l)
+            }) (live_block_at (table ++ Some live ∷ [])) l)
             (sym log_after) placed);
       }
 
@@ -378,7 +378,7 @@ module _ (order : ℕ) (book after : Shown) (table : List (Option Live)) (reques
 abbrev given_to : Shown → Book → TakenBlocks → Shown
 given_to book f t = record { h = book.h; base = book.base; free = f; taken = t }
 
-size_of_block : (slot : Option (Option Live)) (at size : ℕ) → block_in slot ≡ Some (at, size)
+size_of_block : (slot : Option (Option Live)) (at size : ℕ) → live_block_in slot ≡ Some (at, size)
     → length (unwrap_or (live_in slot) no_object).cells ≡ size
 size_of_block None at size e = cc
 size_of_block (Some None) at size e = cc
@@ -391,7 +391,7 @@ size_of_block (Some (Some live)) at size e = by live.block e
         ∙ ap (λ z. z.1) (some_pair (address, length live.cells.items) (at, size) q)
 
 module _ (order : ℕ) (book : Shown) (table : List (Option Live)) (requests : List Asked) (name at size : ℕ)
-    (heap : IsHeap order book table requests) (there : block_at table name ≡ Some (at, size)) where
+    (heap : IsHeap order book table requests) (there : live_block_at table name ≡ Some (at, size)) where
   own_block : IsBlock book heap.placed.blocks name at size
   own_block = heap.placed.each name at size there
 
@@ -413,24 +413,24 @@ module _ (order : ℕ) (book : Shown) (table : List (Option Live)) (requests : L
       by false e = let none = sym (block_past table name (ltb-false name (length table) e)) ∙ there in cc
 
   module _ (after : Shown) (asked : Asked) (k : ℕ) (is : k ≡ order_of_cells size)
-      (request : request_of asked ≡ Given name k) where
+      (request : heap_request asked ≡ Given name k) where
     log_given : log_of (requests ++ asked ∷ []) ≡ Given name (order_of_cells size) ∷ log_of requests
     log_given = one_more requests asked ∙ ap (λ r. r ∷ log_of requests) request
         ∙ ap (λ j. Given name j ∷ log_of requests) is
 
-    pub gave_heap : after.free ≡ give book.free k (at - book.base)
+    pub gave_heap : after.free ≡ give_back book.free k (at - book.base)
         → after.taken ≡ without_taken (at - book.base) book.taken
         → after ≡ record { h = book.h; base = book.base; free = after.free; taken = after.taken }
         → IsHeap order after (slice_set table name None) (requests ++ asked ∷ [])
     gave_heap free taken whole =
         let block : at - book.base ≡ block_of heap.placed.blocks name = let z = own_block.at in omega arith in
-        let full : after ≡ given_to book (give book.free (order_of_cells size) (block_of heap.placed.blocks name))
+        let full : after ≡ given_to book (give_back book.free (order_of_cells size) (block_of heap.placed.blocks name))
         (without_taken (block_of heap.placed.blocks name) book.taken)
-        = whole ∙ ap (λ f. given_to book f after.taken) (free ∙ ap (λ j. give book.free j (at - book.base)) is
-        ∙ ap (give book.free (order_of_cells size)) block)
-        ∙ ap (given_to book (give book.free (order_of_cells size) (block_of heap.placed.blocks name)))
+        = whole ∙ ap (λ f. given_to book f after.taken) (free ∙ ap (λ j. give_back book.free j (at - book.base)) is
+        ∙ ap (give_back book.free (order_of_cells size)) block)
+        ∙ ap (given_to book (give_back book.free (order_of_cells size) (block_of heap.placed.blocks name)))
         (taken ∙ ap (λ b. without_taken b book.taken) block) in
-        let placed = gave_placed book (block_at table) (block_at (slice_set table name None)) (log_of requests)
+        let placed = gave_placed book (live_block_at table) (live_block_at (slice_set table name None)) (log_of requests)
         heap.placed name size at there (cleared_block table name in_table)
         (λ n other. other_block table name n other) in
         record {
@@ -438,10 +438,10 @@ module _ (order : ℕ) (book : Shown) (table : List (Option Live)) (requests : L
           next = let p = length-set table name None in let h = heap.next in let l = ap (λ l. count_taken l) log_given in
               omega arith;
           few = let p = length-set table name None in let f = heap.few in omega arith;
-          placed = subst (λ b. IsPlaced b (block_at (slice_set table name None)) (log_of (requests ++ asked ∷ [])))
-              (sym full) (subst (λ l. IsPlaced (given_to book (give book.free (order_of_cells size)
+          placed = subst (λ b. IsBookPlaced b (live_block_at (slice_set table name None)) (log_of (requests ++ asked ∷ [])))
+              (sym full) (subst (λ l. IsBookPlaced (given_to book (give_back book.free (order_of_cells size)
               (block_of heap.placed.blocks name)) (without_taken (block_of heap.placed.blocks name) book.taken))
-              (block_at (slice_set table name None)) l) (sym log_given) placed);
+              (live_block_at (slice_set table name None)) l) (sym log_given) placed);
         }
 
     pub gave_view : (kept : Kept) → kept_of order table requests ≡ kept
@@ -472,7 +472,7 @@ pub took_so : (order : ℕ) (book after : Shown) (table grown : List (Option Liv
     (live : Live) (asked : Asked) (k at : ℕ)
     → IsHeap order book table requests → suc (length table) < 2 ^ 32
     → k ≡ order_of_cells (length live.cells.items) → live.block ≡ Some at
-    → request_of asked ≡ Taken (length table) k
+    → heap_request asked ≡ Taken (length table) k
     → book.base ≤ at → take book.free k ≡ Some (at - book.base, after.free)
     → after.taken ≡ with_taken (at - book.base) k book.taken
     → after ≡ record { h = book.h; base = book.base; free = after.free; taken = after.taken }
@@ -485,7 +485,7 @@ took_so order book after table grown requests more live asked k at heap few is b
 pub took_shown : (order : ℕ) (book after : Shown) (table grown : List (Option Live)) (requests more : List Asked)
     (live : Live) (asked : Asked) (k at name : ℕ) (kept : Kept) (head : Head) (cells : List Value)
     → IsHeap order book table requests → k ≡ order_of_cells (length live.cells.items) → live.block ≡ Some at
-    → request_of asked ≡ Taken (length table) k
+    → heap_request asked ≡ Taken (length table) k
     → book.base ≤ at → take book.free k ≡ Some (at - book.base, after.free)
     → grown ≡ table ++ Some live ∷ [] → more ≡ requests ++ asked ∷ [] → name ≡ length table
     → kept_of order table requests ≡ kept → object_of live ≡ new_object head cells
@@ -500,9 +500,9 @@ took_shown order book after table grown requests more live asked k at name kept 
 
 pub gave_so : (order : ℕ) (book after : Shown) (table : List (Option Live)) (requests more : List Asked)
     (name at size : ℕ) (slot : Option Live) (asked : Asked) (k : ℕ)
-    → IsHeap order book table requests → block_at table name ≡ Some (at, size) → k ≡ order_of_cells size
-    → request_of asked ≡ Given name k
-    → after.free ≡ give book.free k (at - book.base) → after.taken ≡ without_taken (at - book.base) book.taken
+    → IsHeap order book table requests → live_block_at table name ≡ Some (at, size) → k ≡ order_of_cells size
+    → heap_request asked ≡ Given name k
+    → after.free ≡ give_back book.free k (at - book.base) → after.taken ≡ without_taken (at - book.base) book.taken
     → after ≡ record { h = book.h; base = book.base; free = after.free; taken = after.taken }
     → slot ≡ None → more ≡ requests ++ asked ∷ [] → IsHeap order after (slice_set table name slot) more
 gave_so order book after table requests more name at size slot asked k heap there is request free taken whole s m =
@@ -512,8 +512,8 @@ gave_so order book after table requests more name at size slot asked k heap ther
 
 pub gave_shown : (order : ℕ) (book : Shown) (table : List (Option Live)) (requests more : List Asked) (name at size : ℕ)
     (slot : Option Live) (asked : Asked) (k : ℕ) (kept : Kept)
-    → IsHeap order book table requests → block_at table name ≡ Some (at, size) → k ≡ order_of_cells size
-    → request_of asked ≡ Given name k
+    → IsHeap order book table requests → live_block_at table name ≡ Some (at, size) → k ≡ order_of_cells size
+    → heap_request asked ≡ Given name k
     → slot ≡ None → more ≡ requests ++ asked ∷ [] → kept_of order table requests ≡ kept
     → kept_of order (slice_set table name slot) more ≡ record {
       order = kept.order;

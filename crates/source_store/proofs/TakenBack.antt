@@ -2,7 +2,7 @@
 use Rattle.std.proofs.Common.{◌≡◌, ℕ, zero, suc, ◌+◌, ◌-◌, ◌<◌, ◌≤◌, refl, sym, ap, subst, ◌∙◌, arith, List, [], ◌∷◌}
 use Rattle.std.proofs.Common.{◌++◌, length, length-set, Some, None, eq-eqb, true, if◌then◌else◌}
 use Rattle.std.specs.Prelude.{Option, slice_get, slice_set, take as front}
-use Rattle.meaning_machine.specs.buddy_book.Book.{take, give}
+use Rattle.meaning_machine.specs.buddy_book.Book.{take, give_back}
 use Rattle.meaning_machine.specs.buddy_book.Place.{Log, Taken, Given, Placing, count_taken, block_of, place}
 use Rattle.meaning_machine.specs.buddy_book.Shown.{Shown, order_in, with_taken, without_taken}
 use Rattle.meaning_machine.specs.roopl_semantics.Store.{Value, Head, without}
@@ -13,8 +13,8 @@ use Rattle.source_store.specs.declared.object.Object.{Object as Live}
 use Rattle.source_store.specs.declared.requests.Request.{Request as Asked}
 use Rattle.source_store.specs.declared.requests.Request.TheVariants as asked
 use Rattle.source_store.specs.ValueView.{object_of}
-use Rattle.source_store.specs.HeapView.{Kept, kept_of, store_of, request_of, log_of, block_in}
-use Rattle.source_store.specs.HeapView.{block_and_size, block_at, IsPlaced, IsHeap, SamePlaces, AreUndone}
+use Rattle.source_store.specs.HeapView.{Kept, kept_of, store_of, heap_request, log_of, live_block_in}
+use Rattle.source_store.specs.HeapView.{block_and_size, live_block_at, IsBookPlaced, IsHeap, SamePlaces, AreUndone}
 use Rattle.source_store.specs.HeapView.{before_take, before_give, is_free_slot}
 use Rattle.source_store.proofs.Tables.{pushed_length, pushed_store, block_before, block_past, filled_block}
 use Rattle.source_store.proofs.Tables.{filled_other, filled_store}
@@ -53,16 +53,16 @@ pub log_of_none : (requests : List Asked) → slice_get requests (length request
 log_of_none requests e = ap log_of (no_last requests e)
 
 pub log_of_some : (requests : List Asked) (r : Asked) → slice_get requests (length requests - 1) ≡ Some r
-    → log_of requests ≡ request_of r ∷ log_of (front (length requests - 1) requests)
+    → log_of requests ≡ heap_request r ∷ log_of (front (length requests - 1) requests)
 log_of_some requests r e = ap log_of (ended requests r e) ∙ one_more (front (length requests - 1) requests) r
 
 -- ---- the places before a request
 
-relaid : (book : Shown) (f : ℕ → Option (ℕ × ℕ)) (log older : Log) → IsPlaced book f log
-    → SamePlaces (place book.h log) (place book.h older) → AreUndone book.h older → IsPlaced book f older
+relaid : (book : Shown) (f : ℕ → Option (ℕ × ℕ)) (log older : Log) → IsBookPlaced book f log
+    → SamePlaces (place book.h log) (place book.h older) → AreUndone book.h older → IsBookPlaced book f older
 relaid book f log older p same undone = by (place book.h older) refl
   where
-    by : (q : Option Placing) → place book.h older ≡ q → IsPlaced book f older
+    by : (q : Option Placing) → place book.h older ≡ q → IsBookPlaced book f older
     by None e =
         let none : Some book.free ≡ None = sym (ap book_of p.placed) ∙ same.book ∙ ap book_of e in cc
     by (Some q) e =
@@ -90,7 +90,7 @@ relaid book f log older p same undone = by (place book.h older) refl
 
 -- ---- an allocation undone
 
-live_there : (slot : Option (Option Live)) (at size : ℕ) → block_in slot ≡ Some (at, size)
+live_there : (slot : Option (Option Live)) (at size : ℕ) → live_block_in slot ≡ Some (at, size)
     → (live : Live) × (slot ≡ Some (Some live))
 live_there None at size e = cc
 live_there (Some None) at size e = cc
@@ -100,7 +100,7 @@ module _ (order : ℕ) (book : Shown) (table shrunk : List (Option Live)) (reque
     (name at size k : ℕ) (heap : IsHeap order book table requests)
     (newest : slice_get requests (length requests - 1) ≡ Some (asked.Taken name k))
     (less : fewer ≡ front (length requests - 1) requests)
-    (there : block_at table name ≡ Some (at, size)) (is : k ≡ order_of_cells size) (last : name + 1 ≡ length table)
+    (there : live_block_at table name ≡ Some (at, size)) (is : k ≡ order_of_cells size) (last : name + 1 ≡ length table)
     (short : shrunk ≡ front (length table - 1) table) where
   log_before : log_of requests ≡ Taken name k ∷ log_of fewer
   log_before = log_of_some requests (asked.Taken name k) newest ∙ ap (λ l. Taken name k ∷ log_of l) (sym less)
@@ -118,11 +118,11 @@ module _ (order : ℕ) (book : Shown) (table shrunk : List (Option Live)) (reque
   many : length shrunk ≡ name
   many = let p = ap length whole in let q = pushed_length shrunk (Some live) in omega arith
 
-  stays : (n : ℕ) → (n ≡ name → ⊥) → block_at shrunk n ≡ block_at table n
+  stays : (n : ℕ) → (n ≡ name → ⊥) → live_block_at shrunk n ≡ live_block_at table n
   stays n other = sym (block_before shrunk live n (λ e. other (e ∙ many)))
-      ∙ ap (λ t. block_at t n) (sym whole)
+      ∙ ap (λ t. live_block_at t n) (sym whole)
 
-  pub untook_heap : (after : Shown) → after.free ≡ give book.free k (at - book.base)
+  pub untook_heap : (after : Shown) → after.free ≡ give_back book.free k (at - book.base)
       → after.taken ≡ without_taken (at - book.base) book.taken
       → after ≡ record { h = book.h; base = book.base; free = after.free; taken = after.taken }
       → IsHeap order after shrunk fewer
@@ -132,17 +132,17 @@ module _ (order : ℕ) (book : Shown) (table shrunk : List (Option Live)) (reque
       let full : after ≡ record {
         h = book.h;
         base = book.base;
-        free = give book.free (order_of_cells size) (block_of heap.placed.blocks name);
+        free = give_back book.free (order_of_cells size) (block_of heap.placed.blocks name);
         taken = without_taken (block_of heap.placed.blocks name) book.taken;
       } = all ∙ ap (λ f. record { h = book.h; base = book.base; free = f; taken = after.taken })
-      (free ∙ ap (λ j. give book.free j (at - book.base)) is ∙ ap (give book.free (order_of_cells size)) block)
+      (free ∙ ap (λ j. give_back book.free j (at - book.base)) is ∙ ap (give_back book.free (order_of_cells size)) block)
       ∙ ap (λ t. record {
         h = book.h;
         base = book.base;
-        free = give book.free (order_of_cells size) (block_of heap.placed.blocks name);
+        free = give_back book.free (order_of_cells size) (block_of heap.placed.blocks name);
         taken = t;
       }) (taken ∙ ap (λ b. without_taken b book.taken) block) in
-      let gave = gave_placed book (block_at table) (block_at shrunk) (log_of requests) heap.placed name size at there
+      let gave = gave_placed book (live_block_at table) (live_block_at shrunk) (log_of requests) heap.placed name size at there
       (block_past shrunk name (omega (arith, many))) stays in
       let P : Log → Type 0 = λ l. AreUndone book.h l in
       let undone = subst P log_before heap.placed.undone in
@@ -152,12 +152,12 @@ module _ (order : ℕ) (book : Shown) (table shrunk : List (Option Live)) (reque
       (place book.h (log_of fewer)) in
       let R : Log → Type 0 = λ l. SamePlaces (place book.h (Given name (order_of_cells size) ∷ l))
       (place book.h (log_of fewer)) in subst R (sym log_before) (subst Q is undone.0)) in
-      let S : Shown → Type 0 = λ b. IsPlaced b (block_at shrunk) (log_of fewer) in
+      let S : Shown → Type 0 = λ b. IsBookPlaced b (live_block_at shrunk) (log_of fewer) in
       record {
         same = ap (λ b. b.h) full ∙ heap.same;
         next = let h = heap.next in let l = ap (λ l. count_taken l) log_before in let m = many in omega arith;
         few = let f = heap.few in let m = many in omega arith;
-        placed = subst S (sym full) (relaid _ (block_at shrunk) (Given name (order_of_cells size) ∷ log_of requests)
+        placed = subst S (sym full) (relaid _ (live_block_at shrunk) (Given name (order_of_cells size) ∷ log_of requests)
             (log_of fewer) gave same undone.1);
       }
 
@@ -199,20 +199,20 @@ module _ (order : ℕ) (book : Shown) (table : List (Option Live)) (requests few
         taken = with_taken (at - book.base) k book.taken;
       } = all ∙ ap (λ t. record { h = book.h; base = book.base; free = after.free; taken = t }) taken in
       let after_table = slice_set table name (Some live) in
-      let placed = took_placed book (block_at table) (block_at after_table) (log_of requests) heap.placed name
+      let placed = took_placed book (live_block_at table) (live_block_at after_table) (log_of requests) heap.placed name
       (length live.cells.items) k at after.free is base took
       (filled_block table name live in_table ∙ ap (λ b. block_and_size b (length live.cells.items)) block)
       (λ n other. filled_other table name live n other) in
       let P : Log → Type 0 = λ l. AreUndone book.h l in
       let undone = subst P log_of_give heap.placed.undone in
       let R : Log → Type 0 = λ l. SamePlaces (place book.h (Taken name k ∷ l)) (place book.h (log_of fewer)) in
-      let S : Shown → Type 0 = λ b. IsPlaced b (block_at after_table) (log_of fewer) in
+      let S : Shown → Type 0 = λ b. IsBookPlaced b (live_block_at after_table) (log_of fewer) in
       record {
         same = ap (λ b. b.h) full ∙ heap.same;
         next = let p = length-set table name (Some live) in let h = heap.next in let l =
             ap (λ l. count_taken l) log_of_give in omega arith;
         few = let p = length-set table name (Some live) in let f = heap.few in omega arith;
-        placed = subst S (sym full) (relaid _ (block_at after_table) (Taken name k ∷ log_of requests) (log_of fewer)
+        placed = subst S (sym full) (relaid _ (live_block_at after_table) (Taken name k ∷ log_of requests) (log_of fewer)
             placed (subst R (sym log_of_give) undone.0) undone.1);
       }
 

@@ -33,20 +33,20 @@ listed name None rest = rest
 listed name (Some a) rest = (name, a) ∷ rest
 
 -- the values at the indexes below a number, the highest first
-abbrev pub listing : {A : Type 0} → ℕ → (ℕ → Option A) → List (ℕ × A)
-listing zero f = []
-listing (suc n) f = listed n (f n) (listing n f)
+abbrev pub numbered_listing : {A : Type 0} → ℕ → (ℕ → Option A) → List (ℕ × A)
+numbered_listing zero f = []
+numbered_listing (suc n) f = listed n (f n) (numbered_listing n f)
 
 abbrev pub store_of : List (Option Live) → Store
-store_of table = listing (length table) (live_at table)
+store_of table = numbered_listing (length table) (live_at table)
 
-abbrev pub request_of : Asked → Request
-request_of (asked.Taken name order) = Taken name order
-request_of (asked.Given name order) = Given name order
+abbrev pub heap_request : Asked → Request
+heap_request (asked.Taken name order) = Taken name order
+heap_request (asked.Given name order) = Given name order
 
 -- the requests, kept in their order, the newest first
 abbrev pub log_of : List Asked → Log
-log_of requests = reverse (map request_of requests)
+log_of requests = reverse (map heap_request requests)
 
 abbrev pub kept_of : ℕ → List (Option Live) → List Asked → Kept
 kept_of order table requests = record {
@@ -60,13 +60,13 @@ abbrev pub block_and_size : Option ℕ → ℕ → Option (ℕ × ℕ)
 block_and_size None size = None
 block_and_size (Some address) size = Some (address, size)
 
-abbrev pub block_in : Option (Option Live) → Option (ℕ × ℕ)
-block_in None = None
-block_in (Some None) = None
-block_in (Some (Some live)) = block_and_size live.block (length live.cells.items)
+abbrev pub live_block_in : Option (Option Live) → Option (ℕ × ℕ)
+live_block_in None = None
+live_block_in (Some None) = None
+live_block_in (Some (Some live)) = block_and_size live.block (length live.cells.items)
 
-abbrev pub block_at : List (Option Live) → ℕ → Option (ℕ × ℕ)
-block_at table name = block_in (slice_get table name)
+abbrev pub live_block_at : List (Option Live) → ℕ → Option (ℕ × ℕ)
+live_block_at table name = live_block_in (slice_get table name)
 
 -- an object's block is the one of its name, and is taken with the order of its size
 pub record IsBlock (book : Shown) (blocks : List (ℕ × ℕ)) (name address size : ℕ) : Type 0 where
@@ -90,7 +90,7 @@ AreUndone h (request ∷ older) =
     SamePlaces (place h (opposite request ∷ (request ∷ older))) (place h older) × AreUndone h older
 
 -- the blocks of these names, as the requests place them
-pub record IsPlaced (book : Shown) (block_of_name : ℕ → Option (ℕ × ℕ)) (log : Log) : Type 0 where
+pub record IsBookPlaced (book : Shown) (block_of_name : ℕ → Option (ℕ × ℕ)) (log : Log) : Type 0 where
   pub kept : IsKept book
   pub blocks : List (ℕ × ℕ)
   pub placed : place book.h log ≡ Some (record { book = book.free; blocks = blocks })
@@ -107,12 +107,12 @@ pub record IsHeap (order : ℕ) (book : Shown) (table : List (Option Live))
   pub same : book.h ≡ order
   pub next : length table ≡ 2 + count_taken (log_of requests)
   pub few : length table < 2 ^ 32
-  pub placed : IsPlaced book (block_at table) (log_of requests)
+  pub placed : IsBookPlaced book (live_block_at table) (log_of requests)
 
 -- two tables with the same blocks
 pub record SameBlocks (old new : List (Option Live)) : Type 0 where
   pub length : length new ≡ length old
-  pub blocks : (name : ℕ) → block_at new name ≡ block_at old name
+  pub blocks : (name : ℕ) → live_block_at new name ≡ live_block_at old name
 
 -- the requests with one more, for a new name
 abbrev pub asked_for : Kept → ℕ → Log

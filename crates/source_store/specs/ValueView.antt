@@ -16,14 +16,14 @@ value_of (held.Name name) = Name name
 abbrev pub values_of : List Held → List Value
 values_of cells = map value_of cells
 
-abbrev pub head_of : Kept → Head
-head_of (kept.Class class) = OfClass class
-head_of (kept.Ints length) = OfInts length
-head_of (kept.Objects class length) = OfObjects class length
+abbrev pub kept_head : Kept → Head
+kept_head (kept.Class class) = OfClass class
+kept_head (kept.Ints length) = OfInts length
+kept_head (kept.Objects class length) = OfObjects class length
 
 abbrev pub object_of : Live → Object
 object_of live = record {
-  head = head_of live.head;
+  head = kept_head live.head;
   count = live.count;
   cells = values_of live.cells.items;
 }

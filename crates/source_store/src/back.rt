@@ -1,7 +1,7 @@
 // The requests to a heap undone.
 ghost use Rattle.std.specs.Prelude.{◌≡◌, ◌-◌, ◌<◌, ◌^◌, IfOk, IfErr, OnErr, length, Some, None, slice_get, take, if◌then◌else◌};
 ghost use Rattle.std.specs.Option.{option_map};
-ghost use Rattle.source_store.specs.ValueView.{values_of, head_of};
+ghost use Rattle.source_store.specs.ValueView.{values_of, kept_head};
 ghost use Rattle.source_store.specs.HeapView.{before_take, before_give, is_free_slot};
 
 use crate::changes::block_of;
@@ -44,7 +44,7 @@ impl Heap {
     /// something lives under the object id, or the cells are of another order.
     pub fn ungive(&mut self, head: Head, cells: Vec<Value>) -> Result<Option<u32>, Lack>
         requires small { length cells.items < 2 ^ 31 }
-        ensures ungiven { IfOk result (λ name. before_give self.old (head_of head)
+        ensures ungiven { IfOk result (λ name. before_give self.old (kept_head head)
             (values_of cells.items) self.old.log ≡ option_map (λ n. (n, self.new)) name) }
         ensures stays { OnErr result (self.new ≡ self.old) }
         ensures full { IfErr result (λ why. why ≡ Lack.Full) }

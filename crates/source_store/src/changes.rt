@@ -4,8 +4,8 @@ ghost use Rattle.std.specs.Option.{option_map};
 ghost use Rattle.meaning_machine.specs.buddy_book.Place.{Given, count_taken};
 ghost use Rattle.meaning_machine.specs.roopl_semantics.Store.{changed_at, object_at, without};
 ghost use Rattle.meaning_machine.specs.roopl_semantics.Execution.{order_of_cells, one_less};
-ghost use Rattle.source_store.specs.ValueView.{value_of, values_of, head_of, object_of, with_part, with_count};
-ghost use Rattle.source_store.specs.HeapView.{live_in, store_of, block_in, block_at, SameBlocks, Took};
+ghost use Rattle.source_store.specs.ValueView.{value_of, values_of, kept_head, object_of, with_part, with_count};
+ghost use Rattle.source_store.specs.HeapView.{live_in, store_of, live_block_in, live_block_at, SameBlocks, Took};
 
 use crate::heap::{Heap, order_of};
 use crate::lack::Lack;
@@ -46,7 +46,7 @@ impl Heap {
     /// If no object id is left, that is refused as `Full`.
     pub fn take(&mut self, head: Head, cells: Vec<Value>) -> Result<Option<u32>, Lack>
         requires small { length cells.items < 2 ^ 31 }
-        ensures took { IfOk result (λ name. Took name self.old self.new (head_of head)
+        ensures took { IfOk result (λ name. Took name self.old self.new (kept_head head)
             (values_of cells.items)) }
         ensures stays { OnErr result (self.new ≡ self.old) }
         ensures full { IfErr result (λ why. why ≡ Lack.Full
@@ -108,7 +108,7 @@ fn clear(slot: &mut Option<Object>)
 }
 
 fn block_in_slot(slot: &Option<Object>) -> Option<(u32, usize)>
-    ensures { result ≡ block_in (Some slot.now) }
+    ensures { result ≡ live_block_in (Some slot.now) }
 {
     match slot {
         None => None,
@@ -121,7 +121,7 @@ fn block_in_slot(slot: &Option<Object>) -> Option<(u32, usize)>
 
 /// The address of the block of a name, and the number of its cells.
 pub(crate) fn block_of(objects: &[Option<Object>], name: usize) -> Option<(u32, usize)>
-    ensures { result ≡ block_at objects.now name }
+    ensures { result ≡ live_block_at objects.now name }
 {
     match objects.get(name) {
         None => None,
@@ -131,7 +131,7 @@ pub(crate) fn block_of(objects: &[Option<Object>], name: usize) -> Option<(u32, 
 
 fn put(object: &mut Object, index: usize, value: Value)
     ensures object { object_of object.new ≡ with_part index (value_of value) (object_of object.old) }
-    ensures block { block_in (Some (Some object.new)) ≡ block_in (Some (Some object.old)) }
+    ensures block { live_block_in (Some (Some object.new)) ≡ live_block_in (Some (Some object.old)) }
 {
     put_value(&mut object.cells, index, value);
 }
@@ -139,7 +139,7 @@ fn put(object: &mut Object, index: usize, value: Value)
 fn put_in_slot(slot: &mut Option<Object>, index: usize, value: Value)
     ensures object { live_in (Some slot.new)
         ≡ option_map (with_part index (value_of value)) (live_in (Some slot.old)) }
-    ensures block { block_in (Some slot.new) ≡ block_in (Some slot.old) }
+    ensures block { live_block_in (Some slot.new) ≡ live_block_in (Some slot.old) }
 {
     match slot {
         None => {}
@@ -163,7 +163,7 @@ fn raise(object: &mut Object) -> Result<(), Lack>
     ensures stays { OnErr result (object.new ≡ object.old) }
     ensures full { IfErr result (λ why. why ≡ Lack.Full) }
     ensures most { OnErr result (object.old.count ≡ 2 ^ 64 - 1) }
-    ensures block { block_in (Some (Some object.new)) ≡ block_in (Some (Some object.old)) }
+    ensures block { live_block_in (Some (Some object.new)) ≡ live_block_in (Some (Some object.old)) }
 {
     if object.count == u64::MAX {
         return Err(Lack::Full);
@@ -179,7 +179,7 @@ fn raise_in_slot(slot: &mut Option<Object>) -> Result<(), Lack>
     ensures full { IfErr result (λ why. why ≡ Lack.Full) }
     ensures most { OnErr result (option_map (λ o. o.count) (live_in (Some slot.old))
         ≡ Some (2 ^ 64 - 1)) }
-    ensures block { block_in (Some slot.new) ≡ block_in (Some slot.old) }
+    ensures block { live_block_in (Some slot.new) ≡ live_block_in (Some slot.old) }
 {
     match slot {
         None => Ok(()),
@@ -205,7 +205,7 @@ fn raise_at(objects: &mut Vec<Option<Object>>, name: u32) -> Result<(), Lack>
 
 fn lower(object: &mut Object)
     ensures object { object_of object.new ≡ with_count one_less (object_of object.old) }
-    ensures block { block_in (Some (Some object.new)) ≡ block_in (Some (Some object.old)) }
+    ensures block { live_block_in (Some (Some object.new)) ≡ live_block_in (Some (Some object.old)) }
 {
     object.count = object.count.saturating_sub(1);
 }
@@ -213,7 +213,7 @@ fn lower(object: &mut Object)
 fn lower_in_slot(slot: &mut Option<Object>)
     ensures object { live_in (Some slot.new)
         ≡ option_map (with_count one_less) (live_in (Some slot.old)) }
-    ensures block { block_in (Some slot.new) ≡ block_in (Some slot.old) }
+    ensures block { live_block_in (Some slot.new) ≡ live_block_in (Some slot.old) }
 {
     match slot {
         None => {}

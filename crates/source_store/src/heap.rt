@@ -3,7 +3,7 @@ ghost use Rattle.std.specs.Prelude.{◌≡◌, ℕ, ◌+◌, ◌<◌, ◌≤◌,
 ghost use Rattle.std.specs.Option.{unwrap_or, option_map};
 ghost use Rattle.meaning_machine.specs.roopl_semantics.Store.{Nil, main_name, object_at, object_named, class_of_head};
 ghost use Rattle.meaning_machine.specs.roopl_semantics.Execution.{order_of_cells, is_of_class, all_zero};
-ghost use Rattle.source_store.specs.ValueView.{value_of, values_of, head_of, object_of};
+ghost use Rattle.source_store.specs.ValueView.{value_of, values_of, kept_head, object_of};
 ghost use Rattle.source_store.specs.HeapView.{live_in, live_at, listed, store_of};
 ghost use Rattle.meaning_machine.specs.buddy_book.Place.{count_taken, place};
 
@@ -52,7 +52,7 @@ impl Heap {
               store = (
                 main_name,
                 record {
-                  head = head_of head;
+                  head = kept_head head;
                   count = 1;
                   cells = values_of cells.items;
                 },

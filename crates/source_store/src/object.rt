@@ -3,7 +3,7 @@ ghost use Rattle.std.specs.Prelude.{◌≡◌, slice_get, slice_set};
 ghost use Rattle.std.specs.Option.{unwrap_or};
 ghost use Rattle.meaning_machine.specs.roopl_semantics.Store.{Nil, class_of_head};
 ghost use Rattle.meaning_machine.specs.roopl_semantics.Execution.{is_of_class, all_zero};
-ghost use Rattle.source_store.specs.ValueView.{value_of, values_of, head_of};
+ghost use Rattle.source_store.specs.ValueView.{value_of, values_of, kept_head};
 
 use crate::value::Value;
 
@@ -21,7 +21,7 @@ pub enum Head {
 impl Head {
     /// The number of an object's class, or 0.
     pub fn class(self) -> u32
-        ensures { result ≡ class_of_head (head_of self) }
+        ensures { result ≡ class_of_head (kept_head self) }
     {
         match self {
             Head::Class(class) => class,
@@ -32,7 +32,7 @@ impl Head {
 
     /// Whether this is an object of the class of this number, if there is one.
     pub fn is_of_class(self, named: Option<u32>) -> bool
-        ensures { result ≡ is_of_class (head_of self) named }
+        ensures { result ≡ is_of_class (kept_head self) named }
     {
         match self {
             Head::Class(class) => match named {

@@ -17,7 +17,7 @@ use Rattle.branch_codegen.specs.class_rules.Overrides.{parameters_of}
 use Rattle.branch_codegen.specs.class_rules.Program.{IsAccepted}
 use Rattle.branch_codegen.specs.class_rules.Refusal.{wrong_arity}
 use Rattle.branch_codegen.specs.class_rules.Scope.{Typing, Locals}
-use Rattle.branch_codegen.specs.class_rules.Statements.{passed, required, each_passes, each_passes_after}
+use Rattle.branch_codegen.specs.class_rules.Statements.{verdict_passed, required, each_passes, each_passes_after}
 use Rattle.branch_codegen.specs.class_rules.Statements.{argument_known, argument_new}
 use Rattle.branch_codegen.specs.class_rules.Statements.{arguments_fit, plain_receiver, receiver_class, slot_rules}
 use Rattle.branch_codegen.specs.class_rules.Statements.{call_rules}
@@ -25,14 +25,14 @@ use Rattle.branch_codegen.specs.class_rules.Table.{slot_in, dispatch_in}
 use Rattle.branch_codegen.proofs.class_rules_laws.PassedRules.{both_passed, handed_on, held}
 use Rattle.branch_codegen.specs.paired_code.Code.{Code}
 use Rattle.branch_codegen.specs.meaning_sound.Plain.{ReceiverIsPlain}
-use Rattle.refine_form.specs.Held.{Holds, HoldsBoth}
+use Rattle.refine_form.specs.Held.{HoldsCode, HoldsBoth}
 use Rattle.refine_form.specs.Stands.{shape_of}
-use Rattle.branch_codegen.specs.code_scope.Visible.{Visible, spot_of, free_of, known_in}
+use Rattle.branch_codegen.specs.code_scope.Visible.{Visible, spot_of, free_words_of, known_in}
 use Rattle.refine_objects.proofs.code_scope_laws.Parameters.{parameters_few}
 use Rattle.branch_codegen.specs.register_expressions.Code.{words}
 use Rattle.branch_codegen.specs.expr_uncompute.Code.{place_words}
 use Rattle.branch_codegen.specs.expr_uncompute.Promises as code
-use Rattle.branch_codegen.specs.register_expressions.Steps.{tokens}
+use Rattle.branch_codegen.specs.register_expressions.Steps.{token_count}
 use Rattle.branch_codegen.specs.expr_uncompute.Steps.{place_tokens}
 use Rattle.branch_codegen.specs.expr_uncompute.Sizes.{swap_size}
 use Rattle.branch_codegen.proofs.expr_uncompute_laws.Bounds.{words_most, place_words_most}
@@ -93,7 +93,7 @@ local_room v x at var value body end_var last is h = few_words value last
 few_of : (program : Source) → IsAccepted program → (typing : Typing) → typing.program ≡ program
     → (shape : Locals) (at : ℕ) (receiver : Option Lvalue) (method : Ident) (args : List Ident) (class : ℕ)
     (slot : Option ℕ)
-    → slot_rules typing shape at receiver method args class slot ≡ passed → length args ≤ 32
+    → slot_rules typing shape at receiver method args class slot ≡ verdict_passed → length args ≤ 32
 few_of program accepted typing is shape at receiver method args class None h = absurd (cc)
 few_of program accepted typing is shape at receiver method args class (Some slot) h =
     let id = dispatch_in typing.table class slot in
@@ -113,7 +113,7 @@ pub call_few : (v : Visible) (x : Statement) (at : ℕ) (back : Bool) (receiver 
 call_few v x at back receiver method args accepted is h =
     let typing = typing_in (source_of v.program) (scope_of v) in
     let shape = shape_of (source_of v.program) (scope_of v) in
-    let rules : call_rules typing shape at receiver method args ≡ passed =
+    let rules : call_rules typing shape at receiver method args ≡ verdict_passed =
     (subst (StatementStands v) is h).allowed.rules in
     let r = handed_on (receiver_class typing shape receiver) _ tt rules in
     few_of (source_of v.program) accepted typing refl shape at receiver method args r.value
@@ -139,8 +139,8 @@ swap_few (Item name index) right = omega arith
 
 pub update_arm : {E : Type 0} (v : Visible) (x : Statement) (at : ℕ) (op : UpdateOp) (target : Lvalue)
     (value : Expression) (r : Result Code E) → x ≡ Update at op target value → StatementStands v x
-    → IfOk r (λ p. code.UpdateLaw (spot_of (known_in v)) (free_of (known_in v)) op target value p.cells)
-    → IfOk r (λ p. p.marks ≡ []) → IfOk r (λ p. length p.cells ≤ 80 * (place_tokens target + 1 + tokens value))
+    → IfOk r (λ p. code.UpdateLaw (spot_of (known_in v)) (free_words_of (known_in v)) op target value p.cells)
+    → IfOk r (λ p. p.marks ≡ []) → IfOk r (λ p. length p.cells ≤ 80 * (place_tokens target + 1 + token_count value))
     → IfOk r (λ p. InnerPiece v x p)
 update_arm v x at op target value (Err e) is h law none size = tt
 update_arm v x at op target value (Ok p) is h law none size =
@@ -152,7 +152,7 @@ update_arm v x at op target value (Ok p) is h law none size =
 
 pub swap_arm : {E : Type 0} (v : Visible) (x : Statement) (at : ℕ) (left right : Lvalue) (r : Result Code E)
     → x ≡ Swap at left right → StatementStands v x
-    → IfOk r (λ p. code.SwapLaw (spot_of (known_in v)) (free_of (known_in v)) left right p.cells)
+    → IfOk r (λ p. code.SwapLaw (spot_of (known_in v)) (free_words_of (known_in v)) left right p.cells)
     → IfOk r (λ p. p.marks ≡ []) → IfOk r (λ p. length p.cells ≤ swap_size left right)
     → IfOk r (λ p. InnerPiece v x p)
 swap_arm v x at left right (Err e) is h law none size = tt
@@ -200,7 +200,7 @@ pub if_arm : {E : Type 0} (v : Visible) (x : Statement) (at : ℕ) (test after :
     (one two : Code) (r : Result Code E) → x ≡ If at test taken other after → StatementStands v x
     → BlockPiece v taken one → BlockPiece v other two
     → IfOk r (λ p. IfLaw (known_in v) test after one.cells two.cells p.cells) → IfOk r (λ p. HoldsBoth two one p)
-    → IfOk r (λ p. length p.cells ≤ 58 * (tokens test + tokens after) + length one.cells + length two.cells + 18)
+    → IfOk r (λ p. length p.cells ≤ 58 * (token_count test + token_count after) + length one.cells + length two.cells + 18)
     → IfOk r (λ p. InnerPiece v x p)
 if_arm v x at test after taken other one two (Err e) is h a b law holds size = tt
 if_arm v x at test after taken other one two (Ok p) is h a b law holds size =
@@ -211,7 +211,7 @@ pub from_arm : {E : Type 0} (v : Visible) (x : Statement) (at : ℕ) (entry exit
     (one two : Code) (r : Result Code E) → x ≡ From at entry first again exit → StatementStands v x
     → BlockPiece v first one → BlockPiece v again two
     → IfOk r (λ p. FromLaw (known_in v) entry exit one.cells two.cells p.cells) → IfOk r (λ p. HoldsBoth two one p)
-    → IfOk r (λ p. length p.cells ≤ 58 * (tokens entry + tokens exit) + length one.cells + length two.cells + 18)
+    → IfOk r (λ p. length p.cells ≤ 58 * (token_count entry + token_count exit) + length one.cells + length two.cells + 18)
     → IfOk r (λ p. InnerPiece v x p)
 from_arm v x at entry exit first again one two (Err e) is h a b law holds size = tt
 from_arm v x at entry exit first again one two (Ok p) is h a b law holds size =
@@ -222,8 +222,8 @@ pub local_arm : {E : Type 0} (v : Visible) (x : Statement) (at : ℕ) (var : Var
     (end_var : Var) (last : Expression) (inside : Code) (r : Result Code E) → x ≡ Local at var value body end_var last
     → StatementStands v x
     → BlockPiece (with_variable v var) body inside
-    → IfOk r (λ p. LocalLaw (known_in v) var value last inside.cells p.cells) → IfOk r (λ p. Holds inside p)
-    → IfOk r (λ p. length p.cells ≤ 58 * (tokens value + tokens last) + length inside.cells + 12)
+    → IfOk r (λ p. LocalLaw (known_in v) var value last inside.cells p.cells) → IfOk r (λ p. HoldsCode inside p)
+    → IfOk r (λ p. length p.cells ≤ 58 * (token_count value + token_count last) + length inside.cells + 12)
     → IfOk r (λ p. InnerPiece v x p)
 local_arm v x at var value body end_var last inside (Err e) is h a law holds size = tt
 local_arm v x at var value body end_var last inside (Ok p) is h a law holds size =
@@ -237,7 +237,7 @@ pub if_made : {E : Type 0} (v w u : Visible) (x : Statement) (at : ℕ) (test af
     → StatementStands v x
     → w ≡ v → u ≡ w → BlockPiece v taken one → BlockPiece w other two
     → IfOk r (λ p. IfLaw (known_in u) test after one.cells two.cells p.cells) → IfOk r (λ p. HoldsBoth two one p)
-    → IfOk r (λ p. length p.cells ≤ 58 * (tokens test + tokens after) + length one.cells + length two.cells + 18)
+    → IfOk r (λ p. length p.cells ≤ 58 * (token_count test + token_count after) + length one.cells + length two.cells + 18)
     → IfOk r (λ p. InnerPiece v x p)
 if_made v w u x at test after taken other one two r is h e f a b law holds size =
     if_arm v x at test after taken other one two r is h a (subst (λ z. BlockPiece z other two) e b)
@@ -248,7 +248,7 @@ pub from_made : {E : Type 0} (v w u : Visible) (x : Statement) (at : ℕ) (entry
     → StatementStands v x
     → w ≡ v → u ≡ w → BlockPiece v first one → BlockPiece w again two
     → IfOk r (λ p. FromLaw (known_in u) entry exit one.cells two.cells p.cells) → IfOk r (λ p. HoldsBoth two one p)
-    → IfOk r (λ p. length p.cells ≤ 58 * (tokens entry + tokens exit) + length one.cells + length two.cells + 18)
+    → IfOk r (λ p. length p.cells ≤ 58 * (token_count entry + token_count exit) + length one.cells + length two.cells + 18)
     → IfOk r (λ p. InnerPiece v x p)
 from_made v w u x at entry exit first again one two r is h e f a b law holds size =
     from_arm v x at entry exit first again one two r is h a (subst (λ z. BlockPiece z again two) e b)
@@ -262,8 +262,8 @@ pub local_made : {E : Type 0} (v w u o : Visible) (x : Statement) (at : ℕ) (va
     (body : Statements) (end_var : Var) (last : Expression) (inside : Code) (r : Result Code E)
     → x ≡ Local at var value body end_var last → StatementStands v x
     → w ≡ with_variable v var → u ≡ w → o ≡ popped u → BlockPiece w body inside
-    → IfOk r (λ p. LocalLaw (known_in o) var value last inside.cells p.cells) → IfOk r (λ p. Holds inside p)
-    → IfOk r (λ p. length p.cells ≤ 58 * (tokens value + tokens last) + length inside.cells + 12)
+    → IfOk r (λ p. LocalLaw (known_in o) var value last inside.cells p.cells) → IfOk r (λ p. HoldsCode inside p)
+    → IfOk r (λ p. length p.cells ≤ 58 * (token_count value + token_count last) + length inside.cells + 12)
     → IfOk r (λ p. InnerPiece v x p)
 local_made v w u o x at var value body end_var last inside r is h e f g a law holds size =
     let back : o ≡ v = g ∙ ap popped (f ∙ e) in

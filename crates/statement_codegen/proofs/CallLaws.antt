@@ -15,7 +15,7 @@ use Rattle.branch_codegen.specs.class_rules.declared.kind.Kind.TheVariants as ki
 use Rattle.branch_codegen.specs.class_rules.Refusal.{unknown_name}
 use Rattle.branch_codegen.specs.class_rules.Scope.{Typing, Locals, kind_in}
 use Rattle.branch_codegen.specs.class_rules.Expressions.{variable_type}
-use Rattle.branch_codegen.specs.class_rules.Statements.{passed, check_statement, call_rules}
+use Rattle.branch_codegen.specs.class_rules.Statements.{verdict_passed, check_statement, call_rules}
 use Rattle.branch_codegen.proofs.class_rules_laws.FirstPlaces.{equal_name}
 use Rattle.branch_codegen.proofs.class_rules_laws.PassedRules.{some_of}
 use Rattle.branch_codegen.specs.paired_code.declared.part.Symbol.{Symbol}
@@ -36,7 +36,7 @@ use Rattle.refine_form.specs.Stands.{shape_of, spot_in, extra, Stands}
 use Rattle.refine_form.specs.Worlds.{Place, world_of}
 use Rattle.branch_codegen.specs.code_scope.Visible.{Visible, spot_of}
 use Rattle.branch_codegen.specs.method_calls.Facts.{IsNear}
-use Rattle.branch_codegen.specs.method_calls.Names.{AllTyped, HasMethod, slot_of, class_found, class_named, known_of}
+use Rattle.branch_codegen.specs.method_calls.Names.{AllTyped, HasMethod, method_slot_of, class_found, class_number_named, known_calls_of}
 use Rattle.branch_codegen.specs.method_calls.Laws.{NotAmong, AllApart, AreVariables, OwnCallCode, CallOnCode, MethodCode}
 use Rattle.branch_codegen.specs.refine_calls.Laws.{IsLinked}
 use Rattle.branch_codegen.proofs.refine_calls_laws.Bridge.{reads_of, typed}
@@ -58,7 +58,7 @@ stands_at program s name = spot_of (names_of program s) name.text
 -- its arguments
 pub record MadeCall (program : Source) (s : Scope) (class : ℕ) (method : Ident) (args : List Ident) (slot : ℕ)
     (spots : List Spot) : Type 0 where
-  pub slot_is : slot_of program class method ≡ slot
+  pub slot_is : method_slot_of program class method ≡ slot
   pub small : slot < 2 ^ 20
   pub few : length args ≤ 32
   pub spots_are : map (stands_at program s) args ≡ spots
@@ -109,7 +109,7 @@ module _ (place : Place) (routine : ℕ → Ident → ℕ) (linked : IsLinked pl
   classes = known program linked.accepted
 
   variables_are : (args : List Ident) (ks : List Kind) → AllTyped program s args ks
-      → All IsNear (map (stands_at program s) args) → AreVariables (world_of place) (known_of place routine) s args
+      → All IsNear (map (stands_at program s) args) → AreVariables (world_of place) (known_calls_of place routine) s args
   variables_are [] [] t near = tt
   variables_are [] (k ∷ ks) t near = absurd t
   variables_are (x ∷ args) [] t near = absurd t
@@ -172,7 +172,7 @@ module _ (place : Place) (routine : ℕ → Ident → ℕ) (linked : IsLinked pl
 
   pub own_stands : (at : ℕ) (back : Bool) (method : Ident) (args : List Ident) (slot : ℕ) (spots : List Spot)
       (cells : List Symbol) → MadeCall program s s.class method args slot spots → OwnCallCode back slot spots cells
-      → call_rules typing shape at None method args ≡ passed
+      → call_rules typing shape at None method args ≡ verdict_passed
       → StmtLaw (world_of place) s (Call at back None method args) cells
   own_stands at back method args slot spots cells made code rules =
       let p = passed_call program s at None method args s.class rules in
@@ -185,14 +185,14 @@ module _ (place : Place) (routine : ℕ → Ident → ℕ) (linked : IsLinked pl
 
   pub on_stands : (at : ℕ) (back : Bool) (x method : Ident) (args : List Ident) (slot : ℕ) (spots : List Spot)
       (cells : List Symbol) → IsNear (stands_at program s x)
-      → MadeCall program s (class_named program s x) method args slot spots
+      → MadeCall program s (class_number_named program s x) method args slot spots
       → CallOnCode back (stands_at program s x) slot spots cells
-      → call_rules typing shape at (Some (Whole x)) method args ≡ passed
+      → call_rules typing shape at (Some (Whole x)) method args ≡ verdict_passed
       → StmtLaw (world_of place) s (Call at back (Some (Whole x)) method args) cells
   on_stands at back x method args slot spots cells near made code rules =
       let r = passed_receiver program s at x method args rules in
       let k = kind.Class r.class in
-      let class_is : class_named program s x ≡ r.class = ap class_found r.typed in
+      let class_is : class_number_named program s x ≡ r.class = ap class_found r.typed in
       let p = r.call in
       let at_x = spot_same program s x k r.typed in
       let apart = apart_after (x ∷ []) args x p.new (among_first x) in
@@ -226,14 +226,14 @@ own_returns v back method args slot spots (Ok p) made code = record {
         own_stands place routine linked (scope_of v) at back method args slot spots p.cells
         (subst (λ program. MadeCall program (scope_of v) v.method.class method args slot spots) (sym same) made) code
         (subst (λ program. check_statement (typing_in program (scope_of v)) (shape_of program (scope_of v))
-        (Call at back None method args) ≡ passed) (sym same) rules);
+        (Call at back None method args) ≡ verdict_passed) (sym same) rules);
   };
 }
 own_returns v back method args slot spots (Err none) made code = tt
 
 pub on_returns : {E : Type 0} (v : Visible) (back : Bool) (x method : Ident) (args : List Ident) (spot : Spot)
     (slot : ℕ) (spots : List Spot) (r : Result Code E) → stands_at (source_of v.program) (scope_of v) x ≡ spot
-    → IsNear spot → MadeCall (source_of v.program) (scope_of v) (class_named (source_of v.program) (scope_of v) x)
+    → IsNear spot → MadeCall (source_of v.program) (scope_of v) (class_number_named (source_of v.program) (scope_of v) x)
     method args slot spots → IfOk r (λ p. CallOnCode back spot slot spots p.cells)
     → IfOk r (λ p. CallLaw v back (Some x) method args p.cells)
 on_returns v back x method args spot slot spots (Ok p) spot_is near made code = record {
@@ -243,11 +243,11 @@ on_returns v back x method args spot slot spots (Ok p) spot_is near made code = 
         ap (λ program. stands_at program (scope_of v) x) same ∙ spot_is in
         on_stands place routine linked (scope_of v) at back x method args slot spots p.cells
         (subst IsNear (sym here) near)
-        (subst (λ program. MadeCall program (scope_of v) (class_named program (scope_of v) x) method args slot spots)
+        (subst (λ program. MadeCall program (scope_of v) (class_number_named program (scope_of v) x) method args slot spots)
         (sym same) made)
         (subst (λ k. CallOnCode back k slot spots p.cells) (sym here) code)
         (subst (λ program. check_statement (typing_in program (scope_of v)) (shape_of program (scope_of v))
-        (Call at back (Some (Whole x)) method args) ≡ passed) (sym same) rules);
+        (Call at back (Some (Whole x)) method args) ≡ verdict_passed) (sym same) rules);
   };
 }
 on_returns v back x method args spot slot spots (Err none) spot_is near made code = tt

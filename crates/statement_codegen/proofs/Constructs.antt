@@ -13,7 +13,7 @@ use Rattle.branch_codegen.proofs.inverse_rules_laws.Inverses.{inverse-joined}
 use Rattle.branch_codegen.specs.pisa_isa.Machine.{Memory}
 use Rattle.branch_codegen.specs.paired_code.declared.part.Symbol.{Symbol}
 use Rattle.branch_codegen.specs.paired_code.Code.{Code}
-use Rattle.branch_codegen.specs.paired_code.Does.{Told, told_then, Meets, in_order}
+use Rattle.branch_codegen.specs.paired_code.Does.{RunResult, told_then, Meets, in_order}
 use Rattle.branch_codegen.specs.paired_code.Layout.{mirror_cells}
 use Rattle.branch_codegen.specs.paired_code.Pieces.{Will}
 use Rattle.branch_codegen.proofs.paired_code_laws.Does.{will_last}
@@ -22,9 +22,9 @@ use Rattle.branch_codegen.proofs.paired_code_laws.Mirrored.{will_mirror, length_
 use Rattle.branch_codegen.specs.roopl_semantics.Execution.{exec, constructed}
 use Rattle.branch_codegen.specs.roopl_semantics.Store.{State}
 use Rattle.branch_codegen.proofs.meaning_sound_laws.Locals.{no_int_class}
-use Rattle.refine_form.specs.Form.{World, Scope, Open, Owes, StmtLaw, BlockLaw, turned, told, one, with_var}
+use Rattle.refine_form.specs.Form.{World, Scope, HasOpenFrame, Owes, StmtLaw, BlockLaw, turned_statement, run_result, one, with_var}
 use Rattle.refine_form.specs.Worlds.{world_of}
-use Rattle.refine_form.specs.Held.{Holds}
+use Rattle.refine_form.specs.Held.{HoldsCode}
 use Rattle.refine_form.proofs.Holding.{holds_in}
 use Rattle.refine_form.proofs.Blocks.{owes_less, end_law, then_law}
 use Rattle.refine_form.proofs.Rules.{meets_less, meets_told, meets_then}
@@ -39,37 +39,37 @@ use Rattle.statement_codegen.proofs.Stands.{laid_out, names_same}
 module _ (w : World) (s : Scope) (a b : Statements) (p q : List Symbol) (hp : BlockLaw w s a p) (hq : BlockLaw w s b q)
   where
     abbrev Here : w.Under → State → Memory → Type 0
-    Here u st m = Open w s u st m
+    Here u st m = HasOpenFrame w s u st m
 
     ahead : (n : ℕ) → Owes w n → (u : w.Under) (st : State) (m : Memory) → Here u st m
-        → Will w.im (p ++ q) false m (Meets (Here u) w.rates n 0 (told (exec w.setting n (joined a b) st)))
+        → Will w.im (p ++ q) false m (Meets (Here u) w.rates n 0 (run_result (exec w.setting n (joined a b) st)))
     ahead n owes u st m h =
-        let g : ℕ → State → Told State = λ c x. told (exec w.setting (n - count a) b x) in
+        let g : ℕ → State → RunResult State = λ c x. run_result (exec w.setting (n - count a) b x) in
         let all : Will w.im (in_order false (p ∷ q ∷ [])) false m
-        (Meets (Here u) w.rates n (0 + 0) (told_then (told (exec w.setting n a st)) g)) =
-        meets_then w.im false (Here u) (Here u) w.rates n 0 0 p (q ∷ []) m (told (exec w.setting n a st)) g
+        (Meets (Here u) w.rates n (0 + 0) (told_then (run_result (exec w.setting n a st)) g)) =
+        meets_then w.im false (Here u) (Here u) w.rates n 0 0 p (q ∷ []) m (run_result (exec w.setting n a st)) g
         ((hp n owes false u).does st m h) (λ c x m1 e r.
         let counted : count a ≤ c = cost_counts w.setting n a st x c e in
         will_last w.im false q m1 _ (will_more w.im q false m1 _ _ (λ o t. meets_less (n - c) (omega arith) t)
         ((hq (n - count a) (owes_less w n (n - count a) (omega arith) owes) false u).does x m1 r))) in
-        subst (λ z. Will w.im (p ++ z) false m (Meets (Here u) w.rates n 0 (told (exec w.setting n (joined a b) st))))
+        subst (λ z. Will w.im (p ++ z) false m (Meets (Here u) w.rates n 0 (run_result (exec w.setting n (joined a b) st))))
         (append-nil q)
         (will_more w.im _ false m _ _ (λ o t. meets_told _ _ (sym (told_joined w.setting n a b st)) t) all)
 
     backward : (n : ℕ) → Owes w n → (u : w.Under) (st : State) (m : Memory) → Here u st m
-        → Will w.im (p ++ q) true m (Meets (Here u) w.rates n 0 (told (exec w.setting n (inverse (joined a b)) st)))
+        → Will w.im (p ++ q) true m (Meets (Here u) w.rates n 0 (run_result (exec w.setting n (inverse (joined a b)) st)))
     backward n owes u st m h =
         let before = inverse b in
-        let g : ℕ → State → Told State = λ c x. told (exec w.setting (n - count before) (inverse a) x) in
+        let g : ℕ → State → RunResult State = λ c x. run_result (exec w.setting (n - count before) (inverse a) x) in
         let all : Will w.im (in_order true (q ∷ p ∷ [])) true m
-        (Meets (Here u) w.rates n (0 + 0) (told_then (told (exec w.setting n before st)) g)) =
-        meets_then w.im true (Here u) (Here u) w.rates n 0 0 q (p ∷ []) m (told (exec w.setting n before st)) g
+        (Meets (Here u) w.rates n (0 + 0) (told_then (run_result (exec w.setting n before st)) g)) =
+        meets_then w.im true (Here u) (Here u) w.rates n 0 0 q (p ∷ []) m (run_result (exec w.setting n before st)) g
         ((hq n owes true u).does st m h) (λ c x m1 e r.
         let counted : count before ≤ c = cost_counts w.setting n before st x c e in
         will_last w.im true p m1 _ (will_more w.im p true m1 _ _ (λ o t. meets_less (n - c) (omega arith) t)
         ((hp (n - count before) (owes_less w n (n - count before) (omega arith) owes) true u).does x m1 r))) in
         will_more w.im (p ++ q) true m _ _ (λ o t. meets_told _ _
-        (sym (ap (λ z. told (exec w.setting n z st)) (inverse-joined true a b)
+        (sym (ap (λ z. run_result (exec w.setting n z st)) (inverse-joined true a b)
         ∙ told_joined w.setting n before (inverse a) st)) t) all
 
     joined_law : BlockLaw w s (joined a b) (p ++ q)
@@ -79,7 +79,7 @@ module _ (w : World) (s : Scope) (a b : Statements) (p q : List Symbol) (hp : Bl
 -- ---- what makes an object, inverted, deletes it
 
 turned_new : (d : Bool) (at : ℕ) (made : Creation) (target : Lvalue)
-    → turned (not d) (New at made target) ≡ turned d (Delete at made target)
+    → turned_statement (not d) (New at made target) ≡ turned_statement d (Delete at made target)
 turned_new false at made target = refl
 turned_new true at made target = refl
 
@@ -88,7 +88,7 @@ pub deletes : (w : World) (s : Scope) (at : ℕ) (made : Creation) (target : Lva
 deletes w s at made target p law n owes d u = record {
   does = λ st m h.
       will_mirror w.im p d m _
-      (subst (λ x. Will w.im p (not d) m (Meets (Open w s u) w.rates (suc n) 0 (told (one w.setting n x st))))
+      (subst (λ x. Will w.im p (not d) m (Meets (HasOpenFrame w s u) w.rates (suc n) 0 (run_result (one w.setting n x st))))
       (turned_new d at made target) ((law n owes (not d) u).does st m h));
 }
 
@@ -133,8 +133,8 @@ pub construct_returns : {E : Type 0} (v : Visible) (at : ℕ) (var : Var) (makin
 construct_returns v at var making p inside (Ok x) is made = construct_clause v at var making p inside x.cells is made
 construct_returns v at var making p inside (Err e) is made = tt
 
-pub construct_held : {E : Type 0} (body inside : Code) (r : Result Code E) → Holds body inside
-    → IfOk r (λ x. Holds inside x) → IfOk r (λ x. Holds body x)
+pub construct_held : {E : Type 0} (body inside : Code) (r : Result Code E) → HoldsCode body inside
+    → IfOk r (λ x. HoldsCode inside x) → IfOk r (λ x. HoldsCode body x)
 construct_held body inside (Ok x) first rest = holds_in body inside x first rest
 construct_held body inside (Err e) first rest = tt
 

@@ -20,7 +20,7 @@ use Rattle.branch_codegen.specs.class_rules.Expressions.{is_int}
 use Rattle.branch_codegen.specs.class_rules.Inheritance.{kind_of_var}
 use Rattle.branch_codegen.specs.class_rules.Refusal.{unknown_name}
 use Rattle.branch_codegen.specs.class_rules.Scope.{Typing, Locals, kind_of, kind_in, class_kind, array_kind}
-use Rattle.branch_codegen.specs.class_rules.Statements.{passed, check_statement}
+use Rattle.branch_codegen.specs.class_rules.Statements.{verdict_passed, check_statement}
 use Rattle.branch_codegen.specs.class_rules.Table.{Table, table_of, class_of}
 use Rattle.branch_codegen.proofs.class_rules_laws.PassedRules.{some_of}
 use Rattle.branch_codegen.specs.paired_code.Code.{Code, seq_code}
@@ -92,7 +92,7 @@ module _ (v : Visible) (at : ℕ) (back : Bool) (array : Ident) (index : Express
   swap_allowed : IsAllowed inside (Swap at (Whole (element_name at)) (Item array index))
   swap_allowed = record {
     rules = subst (λ k. check_statement typing (record { name = []; kind = k } ∷ shape)
-        (Swap at (Whole (element_name at)) (Item array index)) ≡ passed) (sym kind_there) rules.swapped;
+        (Swap at (Whole (element_name at)) (Item array index)) ≡ verdict_passed) (sym kind_there) rules.swapped;
     has_words = (tt, plain.0);
     few_nodes = let n = fine.few_nodes in omega (arith, n);
     few_locals = let f = fine.few_locals in omega (arith, f);
@@ -110,7 +110,7 @@ module _ (v : Visible) (at : ℕ) (back : Bool) (array : Ident) (index : Express
         let swaps_out = (swap_stands inside at (Whole (element_name at)) (Item array index) h.last h.swaps_out
         swap_allowed).law place routine linked same in
         let calls =
-        (h.calls.law at (subst (λ k. check_statement typing (record { name = []; kind = k } ∷ shape) call ≡ passed)
+        (h.calls.law at (subst (λ k. check_statement typing (record { name = []; kind = k } ∷ shape) call ≡ verdict_passed)
         (sym kind_there) rules.called)).law place routine linked same in
         subst (λ z. BlockLaw (world_of place) s (element_call at back array index method args) z)
         (ap (λ z. h.first ++ (h.call ++ z)) (append-nil h.last) ∙ sym h.cells)

@@ -14,9 +14,9 @@ use Rattle.branch_codegen.specs.class_rules.Overrides.{parameters_of}
 use Rattle.branch_codegen.specs.class_rules.Table.{slot_in, dispatch_in}
 use Rattle.branch_codegen.specs.class_rules.Refusal.{unknown_name, type_differs, self_update, same_argument, wrong_arity}
 use Rattle.branch_codegen.specs.class_rules.Scope.{Typing, Local, Locals, kind_of}
-use Rattle.branch_codegen.specs.class_rules.Expressions.{and_then, is_int, index_is_int, element_of, variable_type, occurs, type_of}
+use Rattle.branch_codegen.specs.class_rules.Expressions.{then_checked, is_int, index_is_int, element_kind_of, variable_type, occurs, type_of}
 use Rattle.branch_codegen.specs.class_rules.Expressions.{place_type, first_token}
-use Rattle.branch_codegen.specs.class_rules.Statements.{Verdict, receiver_kind, place_class, passed, required, in_turn, each_passes}
+use Rattle.branch_codegen.specs.class_rules.Statements.{Verdict, receiver_kind, place_class, verdict_passed, required, in_turn, each_passes}
 use Rattle.branch_codegen.specs.class_rules.Statements.{each_passes_after, same_kind, in_either_index, swap_rules, argument_known}
 use Rattle.branch_codegen.specs.class_rules.Statements.{argument_new, argument_fits, arguments_fit, slot_rules, call_rules}
 use Rattle.branch_codegen.specs.class_rules.Statements.{receiver_class}
@@ -44,7 +44,7 @@ class_is at kind.IntArray c h = absurd (cc)
 class_is at (kind.ClassArray x) c h = absurd (cc)
 
 -- an array with such elements
-array_is : (name : Ident) (k : Kind) (c : ℕ) → element_of name k ≡ Ok (kind.Class c) → k ≡ kind.ClassArray c
+array_is : (name : Ident) (k : Kind) (c : ℕ) → element_kind_of name k ≡ Ok (kind.Class c) → k ≡ kind.ClassArray c
 array_is name kind.Int c h = absurd (cc)
 array_is name kind.Nil c h = absurd (cc)
 array_is name (kind.Class x) c h = absurd (cc)
@@ -68,8 +68,8 @@ module _ (typing : Typing) (locals : Locals) (at : ℕ) where
   inner k = record { name = []; kind = k } ∷ locals
 
   known_under : (k : Kind) (args : List Ident) → AreNamed args
-      → each_passes (argument_known typing locals false at) args ≡ passed
-      → each_passes (argument_known typing (inner k) false at) args ≡ passed
+      → each_passes (argument_known typing locals false at) args ≡ verdict_passed
+      → each_passes (argument_known typing (inner k) false at) args ≡ verdict_passed
   known_under k [] n h = refl
   known_under k (a ∷ args) n h =
       let both = both_passed (argument_known typing locals false at a)
@@ -77,11 +77,11 @@ module _ (typing : Typing) (locals : Locals) (at : ℕ) where
       let same = kind_in_under typing (record { name = []; kind = k }) locals a.text (bytes_turned a.text [] ∙ n.0) in
       in_turn_passes (argument_known typing (inner k) false at a)
       (each_passes (argument_known typing (inner k) false at) args)
-      (ap (λ z. in_turn (required (is_some z) (unknown_name a.at)) passed) same ∙ both.0)
+      (ap (λ z. in_turn (required (is_some z) (unknown_name a.at)) verdict_passed) same ∙ both.0)
       (known_under k args n.1 both.1)
 
   fit_under : (k : Kind) (params : List Var) (args : List Ident) → AreNamed args
-      → arguments_fit typing locals params args ≡ passed → arguments_fit typing (inner k) params args ≡ passed
+      → arguments_fit typing locals params args ≡ verdict_passed → arguments_fit typing (inner k) params args ≡ verdict_passed
   fit_under k [] args n h = refl
   fit_under k (p ∷ params) [] n h = refl
   fit_under k (p ∷ params) (a ∷ args) n h =
@@ -92,8 +92,8 @@ module _ (typing : Typing) (locals : Locals) (at : ℕ) where
       ∙ both.0)
       (fit_under k params args n.1 both.1)
 
-  new_after : (before args : List Ident) → AreNamed args → each_passes_after argument_new before args ≡ passed
-      → each_passes_after argument_new (element_name at ∷ before) args ≡ passed
+  new_after : (before args : List Ident) → AreNamed args → each_passes_after argument_new before args ≡ verdict_passed
+      → each_passes_after argument_new (element_name at ∷ before) args ≡ verdict_passed
   new_after before [] n h = refl
   new_after before (a ∷ args) n h =
       let both = both_passed (argument_new before a) (each_passes_after argument_new (before ++ a ∷ []) args) h in
@@ -105,8 +105,8 @@ module _ (typing : Typing) (locals : Locals) (at : ℕ) where
 
   slots_under : (k : Kind) (name : Ident) (index : Expression) (method : Ident) (args : List Ident) (static : ℕ)
       → AreNamed args → (o : Option ℕ)
-      → slot_rules typing locals at (Some (Item name index)) method args static o ≡ passed
-      → slot_rules typing (inner k) at (Some (Whole (element_name at))) method args static o ≡ passed
+      → slot_rules typing locals at (Some (Item name index)) method args static o ≡ verdict_passed
+      → slot_rules typing (inner k) at (Some (Whole (element_name at))) method args static o ≡ verdict_passed
   slots_under k name index method args static n None h = absurd (cc)
   slots_under k name index method args static n (Some slot) h =
       let params = parameters_of typing.program (dispatch_in typing.table static slot) in
@@ -122,12 +122,12 @@ module _ (typing : Typing) (locals : Locals) (at : ℕ) where
   pub record ElementRules (name : Ident) (index : Expression) (method : Ident) (args : List Ident) : Type 0 where
     pub class : ℕ
     pub array : variable_type typing locals name ≡ Ok (kind.ClassArray class)
-    pub swapped : swap_rules typing (inner (kind.Class class)) at (Whole (element_name at)) (Item name index) ≡ passed
-    pub called : call_rules typing (inner (kind.Class class)) at (Some (Whole (element_name at))) method args ≡ passed
+    pub swapped : swap_rules typing (inner (kind.Class class)) at (Whole (element_name at)) (Item name index) ≡ verdict_passed
+    pub called : call_rules typing (inner (kind.Class class)) at (Some (Whole (element_name at))) method args ≡ verdict_passed
 
   pub element_rules : (name : Ident) (index : Expression) (method : Ident) (args : List Ident) → IsNamed name
       → HasNames index → AreNamed args
-      → call_rules typing locals at (Some (Item name index)) method args ≡ passed → ElementRules name index method args
+      → call_rules typing locals at (Some (Item name index)) method args ≡ verdict_passed → ElementRules name index method args
   element_rules name index method args named indexes all h =
       let c = handed_on (receiver_class typing locals (Some (Item name index))) _ tt h in
       let p = handed_on (place_type typing locals (Item name index)) _ c.value c.is in
@@ -137,7 +137,7 @@ module _ (typing : Typing) (locals : Locals) (at : ℕ) where
       let typed : place_type typing locals (Item name index) ≡ Ok (kind.Class c.value) = p.is
       ∙ ap (λ z. Ok z) of_class in
       let v = handed_on (variable_type typing locals name) _ (kind.Class c.value) typed in
-      let e = handed_on (element_of name v.value) _ (kind.Class c.value) v.goes in
+      let e = handed_on (element_kind_of name v.value) _ (kind.Class c.value) v.goes in
       let i = handed_on (type_of typing locals index) (index_is_int e.value (first_token index)) (kind.Class c.value)
       e.goes in
       let is : e.value ≡ kind.Class c.value = index_is e.value (first_token index) i.value (kind.Class c.value) i.goes
@@ -155,9 +155,9 @@ module _ (typing : Typing) (locals : Locals) (at : ℕ) where
         class = c.value;
         array = v.is ∙ ap (λ z. Ok z) (array_is name v.value c.value (e.is ∙ ap (λ z. Ok z) is));
         swapped =
-            hands_on (place_type typing (inner k) (Whole t)) (λ a. and_then
-            (place_type typing (inner k) (Item name index)) (λ b. swap_rest a b)) k passed receiver
-            (hands_on (place_type typing (inner k) (Item name index)) (λ b. swap_rest k b) k passed element
+            hands_on (place_type typing (inner k) (Whole t)) (λ a. then_checked
+            (place_type typing (inner k) (Item name index)) (λ b. swap_rest a b)) k verdict_passed receiver
+            (hands_on (place_type typing (inner k) (Item name index)) (λ b. swap_rest k b) k verdict_passed element
             (in_turn_passes (required (same_kind k k) (type_differs at)) _
             (required_passes _ (type_differs at) (same_as_itself k))
             (required_passes _ (self_update at) (ap (λ b. not (b || occurs name.text index)) (not_in index indexes)
@@ -165,8 +165,8 @@ module _ (typing : Typing) (locals : Locals) (at : ℕ) where
         called =
             hands_on (receiver_class typing (inner k) (Some (Whole t)))
             (λ c. slot_rules typing (inner k) at (Some (Whole t)) method args c
-            (slot_in typing.table c method.text)) c.value passed
+            (slot_in typing.table c method.text)) c.value verdict_passed
             (hands_on (place_type typing (inner k) (Whole t))
-            (λ x. and_then (receiver_kind at x) (place_class at (Whole t))) k (Ok c.value) receiver refl)
+            (λ x. then_checked (receiver_kind at x) (place_class at (Whole t))) k (Ok c.value) receiver refl)
             (slots_under k name index method args c.value all (slot_in typing.table c.value method.text) c.goes);
       }

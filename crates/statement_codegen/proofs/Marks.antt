@@ -17,7 +17,7 @@ use Rattle.branch_codegen.specs.pisa_isa.declared.notes.Mark.{Mark}
 use Rattle.branch_codegen.specs.paired_code.declared.part.Symbol.{Symbol}
 use Rattle.branch_codegen.specs.paired_code.Code.{Code, moved_on, shift, seq_code, marked_code}
 use Rattle.refine_form.specs.Form.{Scope}
-use Rattle.refine_form.specs.Held.{Holds, HoldsBoth}
+use Rattle.refine_form.specs.Held.{HoldsCode, HoldsBoth}
 use Rattle.refine_form.proofs.Holding.{both_seq}
 use Rattle.statement_codegen.specs.Rows.{Row, row_before}
 use Rattle.statement_codegen.specs.Ranges.{LiesIn, IsRange, MarksOf, is_marked, holds_cell, IsCovered}
@@ -62,7 +62,7 @@ module _ (Law : Scope → Statement → List Symbol → Type 0) where
   }
 
   -- one fragment in another
-  pub marks_in : (rows : List Row) (inner p : Code) → Holds inner p → MarksOf Law rows inner → MarksOf Law rows p
+  pub marks_in : (rows : List Row) (inner p : Code) → HoldsCode inner p → MarksOf Law rows inner → MarksOf Law rows p
   marks_in rows inner p h m =
       let n = length h.before in
       record {

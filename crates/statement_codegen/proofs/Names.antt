@@ -32,7 +32,7 @@ use Rattle.refine_form.specs.Form.{Scope}
 use Rattle.refine_form.specs.Stands.{local_of, shape_of, spot_at, spot_in}
 use Rattle.branch_codegen.specs.code_scope.Visible.{Known, word_named, type_named, field_type, kind_named, spot_of}
 use Rattle.branch_codegen.specs.method_calls.Facts.{IsNear}
-use Rattle.branch_codegen.specs.method_calls.Names.{class_of_kind, class_found, class_named}
+use Rattle.branch_codegen.specs.method_calls.Names.{class_of_kind, class_found, class_number_named}
 use Rattle.branch_codegen.proofs.refine_calls_laws.Bridge.{shape_names}
 use Rattle.branch_codegen.specs.refine_expressions.Typing.{known_of, typing_in}
 use Rattle.branch_codegen.proofs.refine_expressions_laws.Names.{var_name, word_at, word_is}
@@ -124,18 +124,18 @@ module _ (program : Source) (s : Scope) where
   class_by None = 0
   class_by (Some k) = class_of_kind (kind_of table k)
 
-  pub class_is : (x : Ident) → class_named program s x ≡ class_by (kind_named known x.text)
+  pub class_is : (x : Ident) → class_number_named program s x ≡ class_by (kind_named known x.text)
   class_is x = ap (λ o. class_found (ok_or o (unknown_name x.at))) (kind_is x.text) ∙ by (kind_named known x.text)
     where
       by : (r : Option VarType) → class_found (ok_or (option_map (kind_of table) r) (unknown_name x.at)) ≡ class_by r
       by None = refl
       by (Some k) = refl
 
-  pub class_none : (x : Ident) → None ≡ kind_named known x.text → 0 ≡ class_named program s x
+  pub class_none : (x : Ident) → None ≡ kind_named known x.text → 0 ≡ class_number_named program s x
   class_none x e = sym (class_is x ∙ ap class_by (sym e))
 
   pub class_some : (x : Ident) (k : VarType) (n : ℕ) → Some k ≡ kind_named known x.text
-      → n ≡ class_of_kind (kind_of table k) → n ≡ class_named program s x
+      → n ≡ class_of_kind (kind_of table k) → n ≡ class_number_named program s x
   class_some x k n e is = is ∙ sym (class_is x ∙ ap class_by (sym e))
 
   -- ---- spots

@@ -12,14 +12,14 @@ use Rattle.rpp_tree.specs.Parts.{creation_tokens, lvalue_tokens}
 use Rattle.branch_codegen.specs.paired_code.Code.{Code, unmarked}
 use Rattle.branch_codegen.specs.paired_code.Layout.{mirror_cells}
 use Rattle.branch_codegen.proofs.paired_code_laws.Mirrored.{length_mirror}
-use Rattle.branch_codegen.specs.code_scope.Visible.{Visible, spot_of, free_of, known_in}
+use Rattle.branch_codegen.specs.code_scope.Visible.{Visible, spot_of, free_words_of, known_in}
 use Rattle.branch_codegen.specs.expr_uncompute.Code.{place_words}
 use Rattle.branch_codegen.specs.expr_uncompute.Steps.{place_tokens}
 use Rattle.branch_codegen.proofs.expr_uncompute_laws.Bounds.{place_words_most}
 use Rattle.refine_objects.specs.object_codegen.Promises.{CopyLaw}
 use Rattle.statement_codegen.specs.Pieces.{StatementStands, InnerPiece}
 use Rattle.refine_objects.specs.object_codegen.Creations.{creation_words, creation_size, NewLaw}
-use Rattle.refine_form.specs.Held.{Holds}
+use Rattle.refine_form.specs.Held.{HoldsCode}
 use Rattle.statement_codegen.specs.Codes.{with_variable}
 use Rattle.statement_codegen.specs.Laws.{ConstructLaw}
 use Rattle.statement_codegen.specs.Pieces.{BlockPiece}
@@ -48,7 +48,7 @@ uncopy_room v x at kind source target is h =
 
 pub copy_arm : {E : Type 0} (v : Visible) (x : Statement) (at : ℕ) (kind : VarType) (source target : Lvalue)
     (r : Result Code E) → x ≡ Copy at kind source target → StatementStands v x
-    → IfOk r (λ p. CopyLaw (spot_of (known_in v)) (free_of (known_in v)) source target p.cells)
+    → IfOk r (λ p. CopyLaw (spot_of (known_in v)) (free_words_of (known_in v)) source target p.cells)
     → IfOk r (λ p. p.marks ≡ [])
     → IfOk r (λ p. length p.cells ≤ 47 + 80 * (place_tokens source + place_tokens target))
     → IfOk r (λ p. InnerPiece v x p)
@@ -63,7 +63,7 @@ copy_arm v x at kind source target (Ok p) is h law none size =
 -- its inverse
 pub uncopy_arm : {E : Type 0} (v : Visible) (x : Statement) (at : ℕ) (kind : VarType) (source target : Lvalue)
     (copy : Code) (r : Result Code E) → x ≡ Uncopy at kind source target → StatementStands v x
-    → CopyLaw (spot_of (known_in v)) (free_of (known_in v)) source target copy.cells
+    → CopyLaw (spot_of (known_in v)) (free_words_of (known_in v)) source target copy.cells
     → length copy.cells ≤ 47 + 80 * (place_tokens source + place_tokens target)
     → IfOk r (λ p. p ≡ unmarked (mirror_cells copy.cells)) → IfOk r (λ p. InnerPiece v x p)
 uncopy_arm v x at kind source target copy (Err e) is h law size mirrored = tt
@@ -103,7 +103,7 @@ few_cells (Objects class size) target = let t = place_tokens_are target in let s
 
 pub new_arm : {E : Type 0} (v : Visible) (x : Statement) (at : ℕ) (made : Creation) (target : Lvalue)
     (r : Result Code E) → x ≡ New at made target → StatementStands v x
-    → IfOk r (λ p. NewLaw (source_of v.program) (spot_of (known_in v)) (free_of (known_in v)) made target p.cells)
+    → IfOk r (λ p. NewLaw (source_of v.program) (spot_of (known_in v)) (free_words_of (known_in v)) made target p.cells)
     → IfOk r (λ p. p.marks ≡ [])
     → IfOk r (λ p. length p.cells ≤ creation_size made target) → IfOk r (λ p. InnerPiece v x p)
 new_arm v x at made target (Err e) is h law none size = tt
@@ -116,7 +116,7 @@ new_arm v x at made target (Ok p) is h law none size =
 -- its inverse
 pub delete_arm : {E : Type 0} (v : Visible) (x : Statement) (at : ℕ) (made : Creation) (target : Lvalue) (new : Code)
     (r : Result Code E) → x ≡ Delete at made target → StatementStands v x
-    → NewLaw (source_of v.program) (spot_of (known_in v)) (free_of (known_in v)) made target new.cells
+    → NewLaw (source_of v.program) (spot_of (known_in v)) (free_words_of (known_in v)) made target new.cells
     → length new.cells ≤ creation_size made target → IfOk r (λ p. p ≡ unmarked (mirror_cells new.cells))
     → IfOk r (λ p. InnerPiece v x p)
 delete_arm v x at made target new (Err e) is h law size mirrored = tt
@@ -134,10 +134,10 @@ pub construct_made : {E : Type 0} (v w u : Visible) (x : Statement) (at : ℕ) (
     (end : Ident) (var : Var) (making inside : Code) (o : Visible) (r : Result Code E)
     → x ≡ Construct at class name body end → StatementStands v x → var ≡ record { kind = type.Class class; name = name }
     → w ≡ with_variable v var → u ≡ w → o ≡ v
-    → NewLaw (source_of w.program) (spot_of (known_in w)) (free_of (known_in w)) (Object class) (Whole name)
+    → NewLaw (source_of w.program) (spot_of (known_in w)) (free_words_of (known_in w)) (Object class) (Whole name)
     making.cells
     → length making.cells ≤ creation_size (Object class) (Whole name) → BlockPiece w body inside
-    → IfOk r (λ p. ConstructLaw o at var making.cells inside.cells p.cells) → IfOk r (λ p. Holds inside p)
+    → IfOk r (λ p. ConstructLaw o at var making.cells inside.cells p.cells) → IfOk r (λ p. HoldsCode inside p)
     → IfOk r (λ p. length p.cells ≤ 2 * length making.cells + length inside.cells + 128)
     → IfOk r (λ p. InnerPiece v x p)
 construct_made v w u x at class name body end var making inside o (Err e) is h var_is w_is u_is o_is new few a made held
@@ -148,9 +148,9 @@ construct_made v w u x at class name body end var making inside o (Ok p) is h va
     let here : w ≡ with_variable v (record { kind = type.Class class; name = name }) = w_is
     ∙ ap (with_variable v) var_is in
     let inner = with_variable v (record { kind = type.Class class; name = name }) in
-    let law : NewLaw (source_of inner.program) (spot_of (known_in inner)) (free_of (known_in inner)) (Object class)
+    let law : NewLaw (source_of inner.program) (spot_of (known_in inner)) (free_words_of (known_in inner)) (Object class)
     (Whole name) making.cells =
-    subst (λ (z : Visible). NewLaw (source_of z.program) (spot_of (known_in z)) (free_of (known_in z)) (Object class)
+    subst (λ (z : Visible). NewLaw (source_of z.program) (spot_of (known_in z)) (free_words_of (known_in z)) (Object class)
     (Whole name) making.cells) here new in
     let one : ConstructLaw v at (record { kind = type.Class class; name = name }) making.cells inside.cells p.cells =
     subst (λ z. ConstructLaw z at (record { kind = type.Class class; name = name }) making.cells inside.cells p.cells)

@@ -9,7 +9,7 @@ use Rattle.rpp_tree.specs.Tree.{Copy, Uncopy, Source, creation_nodes, index_node
 use Rattle.rpp_tree.specs.Views.{source_of}
 use Rattle.branch_codegen.specs.paired_code.declared.part.Symbol.{Symbol}
 use Rattle.branch_codegen.specs.paired_code.Layout.{mirror_cells}
-use Rattle.branch_codegen.specs.code_scope.Visible.{Visible, Known, spot_of, free_of, known_in}
+use Rattle.branch_codegen.specs.code_scope.Visible.{Visible, Known, spot_of, free_words_of, known_in}
 use Rattle.branch_codegen.specs.expr_uncompute.Code.{place_words}
 use Rattle.branch_codegen.proofs.expr_uncompute_laws.Bounds.{place_words_most}
 use Rattle.branch_codegen.specs.refine_expressions.Typing.{IsPassed}
@@ -27,7 +27,7 @@ use Rattle.statement_codegen.specs.Codes.{scope_of, with_variable, IsStatementCo
 use Rattle.statement_codegen.proofs.Stands.{laid_out, names_same, room_for}
 
 pub copy_stands : (v : Visible) (at : ℕ) (kind : VarType) (source target : Lvalue) (all : List Symbol)
-    → CopyLaw (spot_of (known_in v)) (free_of (known_in v)) source target all → IsAllowed v (Copy at kind source target)
+    → CopyLaw (spot_of (known_in v)) (free_words_of (known_in v)) source target all → IsAllowed v (Copy at kind source target)
     → IsStatementCode v (Copy at kind source target) all
 copy_stands v at kind source target all made fine = record {
   law = λ place routine linked same.
@@ -46,11 +46,11 @@ copy_stands v at kind source target all made fine = record {
       copies_are_told place (laid_out place routine linked) (scope_of v) at kind source target
       (subst (λ program. IsPassed program (scope_of v) (Copy at kind source target)
       (place_words source + place_words target)) (sym same) ok) all
-      (subst (λ (k : Known). CopyLaw (spot_of k) (free_of k) source target all) (sym (names_same v place same)) made);
+      (subst (λ (k : Known). CopyLaw (spot_of k) (free_words_of k) source target all) (sym (names_same v place same)) made);
 }
 
 pub uncopy_stands : (v : Visible) (at : ℕ) (kind : VarType) (source target : Lvalue) (all : List Symbol)
-    → CopyLaw (spot_of (known_in v)) (free_of (known_in v)) source target all
+    → CopyLaw (spot_of (known_in v)) (free_words_of (known_in v)) source target all
     → IsAllowed v (Uncopy at kind source target) → IsStatementCode v (Uncopy at kind source target) (mirror_cells all)
 uncopy_stands v at kind source target all made fine = record {
   law = λ place routine linked same.
@@ -69,7 +69,7 @@ uncopy_stands v at kind source target all made fine = record {
       uncopies_are_told place (laid_out place routine linked) (scope_of v) at kind source target
       (subst (λ program. IsPassed program (scope_of v) (Uncopy at kind source target)
       (place_words source + place_words target)) (sym same) ok) all
-      (subst (λ (k : Known). CopyLaw (spot_of k) (free_of k) source target all) (sym (names_same v place same)) made);
+      (subst (λ (k : Known). CopyLaw (spot_of k) (free_words_of k) source target all) (sym (names_same v place same)) made);
 }
 
 -- ---- objects and arrays
@@ -84,7 +84,7 @@ few_creation_words (Objects class size) target h = let t = place_words_most targ
     omega (arith, h, t, w)
 
 pub new_stands : (v : Visible) (at : ℕ) (made : Creation) (target : Lvalue) (all : List Symbol)
-    → NewLaw (source_of v.program) (spot_of (known_in v)) (free_of (known_in v)) made target all
+    → NewLaw (source_of v.program) (spot_of (known_in v)) (free_words_of (known_in v)) made target all
     → IsAllowed v (New at made target) → IsStatementCode v (New at made target) all
 new_stands v at made target all law fine = record {
   law = λ place routine linked same.
@@ -99,13 +99,13 @@ new_stands v at made target all law fine = record {
       news_are_told place routine linked (scope_of v) at made target
       (subst (λ program. IsPassed program (scope_of v) (New at made target) (creation_words made target)) (sym same) ok)
       all
-      (subst (λ (k : Known). NewLaw place.setting.program (spot_of k) (free_of k) made target all)
+      (subst (λ (k : Known). NewLaw place.setting.program (spot_of k) (free_words_of k) made target all)
       (sym (names_same v place same))
-      (subst (λ program. NewLaw program (spot_of (known_in v)) (free_of (known_in v)) made target all) (sym same) law));
+      (subst (λ program. NewLaw program (spot_of (known_in v)) (free_words_of (known_in v)) made target all) (sym same) law));
 }
 
 pub delete_stands : (v : Visible) (at : ℕ) (made : Creation) (target : Lvalue) (all : List Symbol)
-    → NewLaw (source_of v.program) (spot_of (known_in v)) (free_of (known_in v)) made target all
+    → NewLaw (source_of v.program) (spot_of (known_in v)) (free_words_of (known_in v)) made target all
     → IsAllowed v (Delete at made target) → IsStatementCode v (Delete at made target) (mirror_cells all)
 delete_stands v at made target all law fine = record {
   law = λ place routine linked same.
@@ -120,9 +120,9 @@ delete_stands v at made target all law fine = record {
       deletes_are_told place routine linked (scope_of v) at made target
       (subst (λ program. IsPassed program (scope_of v) (Delete at made target) (creation_words made target)) (sym same)
       ok) all
-      (subst (λ (k : Known). NewLaw place.setting.program (spot_of k) (free_of k) made target all)
+      (subst (λ (k : Known). NewLaw place.setting.program (spot_of k) (free_words_of k) made target all)
       (sym (names_same v place same))
-      (subst (λ program. NewLaw program (spot_of (known_in v)) (free_of (known_in v)) made target all) (sym same) law));
+      (subst (λ program. NewLaw program (spot_of (known_in v)) (free_words_of (known_in v)) made target all) (sym same) law));
 }
 
 -- the new that begins a `construct` is allowed if its variable is visible

@@ -15,8 +15,8 @@ use Rattle.branch_codegen.specs.class_rules.Table.{Table, table_of, slot_in, dis
 use Rattle.branch_codegen.specs.class_rules.Refusal.{unknown_name, type_differs, wrong_arity}
 use Rattle.branch_codegen.specs.class_rules.Scope.{Typing, Locals, kind_of, kind_in}
 use Rattle.branch_codegen.specs.class_rules.Inheritance.{kind_of_var}
-use Rattle.branch_codegen.specs.class_rules.Expressions.{and_then, variable_type}
-use Rattle.branch_codegen.specs.class_rules.Statements.{passed, required, each_passes, each_passes_after, argument_known, argument_new}
+use Rattle.branch_codegen.specs.class_rules.Expressions.{then_checked, variable_type}
+use Rattle.branch_codegen.specs.class_rules.Statements.{verdict_passed, required, each_passes, each_passes_after, argument_known, argument_new}
 use Rattle.branch_codegen.specs.class_rules.Statements.{argument_fits, arguments_fit, receiver_kind, place_class, receiver_class}
 use Rattle.branch_codegen.specs.class_rules.Statements.{plain_receiver, slot_rules, call_rules}
 use Rattle.branch_codegen.proofs.class_rules_laws.PassedRules.{both_passed, held, handed_on, kinds_same}
@@ -31,7 +31,7 @@ a_kind None h = absurd (cc)
 a_kind (Some k) h = refl
 
 class_kind_is : (at : ℕ) (x : Ident) (k : Kind) (class : ℕ)
-    → and_then (receiver_kind at k) (place_class at (Whole x)) ≡ Ok class → k ≡ kind.Class class
+    → then_checked (receiver_kind at k) (place_class at (Whole x)) ≡ Ok class → k ≡ kind.Class class
 class_kind_is at x kind.Int class h = absurd (cc)
 class_kind_is at x kind.Nil class h = absurd (cc)
 class_kind_is at x (kind.Class c) class h = let e : c ≡ class = cc in ap kind.Class e
@@ -49,7 +49,7 @@ module _ (program : Source) (s : Scope) where
   shape = shape_of program s
 
   all_typed : (own : Bool) (at : ℕ) (params : List Var) (args : List Ident)
-      → each_passes (argument_known typing shape own at) args ≡ passed → arguments_fit typing shape params args ≡ passed
+      → each_passes (argument_known typing shape own at) args ≡ verdict_passed → arguments_fit typing shape params args ≡ verdict_passed
       → length args ≡ length params → AllTyped program s args (map (kind_of_var program) params)
   all_typed own at [] [] h f l = tt
   all_typed own at [] (a ∷ args) h f l = absurd (omega arith)
@@ -72,15 +72,15 @@ module _ (program : Source) (s : Scope) where
     pub inside : class < length program.classes
     pub types : AllTyped program s args (map (kind_of_var program)
         (parameters_of program (dispatch_in table class slot)))
-    pub new : each_passes_after argument_new before args ≡ passed
+    pub new : each_passes_after argument_new before args ≡ verdict_passed
 
   pub passed_call : (at : ℕ) (receiver : Option Lvalue) (method : Ident) (args : List Ident) (class : ℕ)
-      → slot_rules typing shape at receiver method args class (slot_in table class method.text) ≡ passed
+      → slot_rules typing shape at receiver method args class (slot_in table class method.text) ≡ verdict_passed
       → PassedCall (plain_receiver receiver) class method args
   passed_call at receiver method args class h = by (slot_in table class method.text) refl h
     where
       by : (o : Option ℕ) → slot_in table class method.text ≡ o
-          → slot_rules typing shape at receiver method args class o ≡ passed
+          → slot_rules typing shape at receiver method args class o ≡ verdict_passed
           → PassedCall (plain_receiver receiver) class method args
       by None e q = absurd (cc)
       by (Some slot) e q =
@@ -105,7 +105,7 @@ module _ (program : Source) (s : Scope) where
     pub call : PassedCall (x ∷ []) class method args
 
   pub passed_receiver : (at : ℕ) (x method : Ident) (args : List Ident)
-      → call_rules typing shape at (Some (Whole x)) method args ≡ passed → PassedReceiver x method args
+      → call_rules typing shape at (Some (Whole x)) method args ≡ verdict_passed → PassedReceiver x method args
   passed_receiver at x method args h =
       let c = handed_on (receiver_class typing shape (Some (Whole x))) _ tt h in
       let k = handed_on (variable_type typing shape x) _ c.value c.is in

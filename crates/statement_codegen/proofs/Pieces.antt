@@ -15,11 +15,11 @@ use Rattle.branch_codegen.specs.pisa_isa.declared.notes.Mark.{Mark}
 use Rattle.branch_codegen.specs.paired_code.declared.part.Symbol.{Symbol}
 use Rattle.branch_codegen.specs.paired_code.Code.{Code, shift, unmarked, seq_code, marked_code}
 use Rattle.refine_form.specs.Form.{Scope, with_var}
-use Rattle.refine_form.specs.Held.{Holds, HoldsBoth}
+use Rattle.refine_form.specs.Held.{HoldsCode, HoldsBoth}
 use Rattle.refine_form.proofs.Holding.{shift_append, shift_zero, shift_shift}
 use Rattle.refine_form.proofs.Stated.{nothing_is_a_block, blocks_are_rows}
 use Rattle.branch_codegen.specs.code_scope.Visible.{Visible, known_in}
-use Rattle.branch_codegen.specs.register_expressions.Steps.{tokens}
+use Rattle.branch_codegen.specs.register_expressions.Steps.{token_count}
 use Rattle.branch_codegen.specs.expr_uncompute.Steps.{place_tokens}
 use Rattle.statement_codegen.specs.Codes.{scope_of, with_variable, IsStatementCode, IsBlockCode, IsAllowed}
 use Rattle.branch_codegen.specs.Laws.{IfLaw, FromLaw}
@@ -35,7 +35,7 @@ use Rattle.statement_codegen.proofs.Marks.{covered_none, covered_seq}
 
 -- ---- tokens
 
-pub tokens_are : (e : Expression) → tokens e ≡ expression_tokens e
+pub tokens_are : (e : Expression) → token_count e ≡ expression_tokens e
 tokens_are (Number at word) = refl
 tokens_are (Null at) = refl
 tokens_are (Variable name) = refl
@@ -93,7 +93,7 @@ module _ (v : Visible) where
   pub if_inner : (at : ℕ) (test after : Expression) (taken other : Statements) (one two p : Code)
       → StatementStands v (If at test taken other after)
       → IfLaw (known_in v) test after one.cells two.cells p.cells → HoldsBoth two one p
-      → length p.cells ≤ 58 * (tokens test + tokens after) + length one.cells + length two.cells + 18
+      → length p.cells ≤ 58 * (token_count test + token_count after) + length one.cells + length two.cells + 18
       → BlockPiece v taken one → BlockPiece v other two → InnerPiece v (If at test taken other after) p
   if_inner at test after taken other one two p h made held size a b = record {
     law = if_stands v at test after taken other one.cells two.cells p.cells made h.allowed a.law b.law;
@@ -106,7 +106,7 @@ module _ (v : Visible) where
   pub from_inner : (at : ℕ) (entry exit : Expression) (first again : Statements) (one two p : Code)
       → StatementStands v (From at entry first again exit)
       → FromLaw (known_in v) entry exit one.cells two.cells p.cells → HoldsBoth two one p
-      → length p.cells ≤ 58 * (tokens entry + tokens exit) + length one.cells + length two.cells + 18
+      → length p.cells ≤ 58 * (token_count entry + token_count exit) + length one.cells + length two.cells + 18
       → BlockPiece v first one → BlockPiece v again two → InnerPiece v (From at entry first again exit) p
   from_inner at entry exit first again one two p h made held size a b = record {
     law = from_stands v at entry exit first again one.cells two.cells p.cells made h.allowed a.law b.law;
@@ -118,8 +118,8 @@ module _ (v : Visible) where
 
   pub local_inner : (at : ℕ) (var : Var) (value : Expression) (body : Statements) (end_var : Var) (last : Expression)
       (inside p : Code) → StatementStands v (Local at var value body end_var last)
-      → LocalLaw (known_in v) var value last inside.cells p.cells → Holds inside p
-      → length p.cells ≤ 58 * (tokens value + tokens last) + length inside.cells + 12
+      → LocalLaw (known_in v) var value last inside.cells p.cells → HoldsCode inside p
+      → length p.cells ≤ 58 * (token_count value + token_count last) + length inside.cells + 12
       → BlockPiece (with_variable v var) body inside → InnerPiece v (Local at var value body end_var last) p
   local_inner at var value body end_var last inside p h made held size a = record {
     law = local_stands v at var value body end_var last inside.cells p.cells made h.allowed a.law;
@@ -130,7 +130,7 @@ module _ (v : Visible) where
   -- an object for a block, over the code of `new`, which has at most 432 cells
   pub construct_inner : (at : ℕ) (class name : Ident) (body : Statements) (end : Ident) (making : List Symbol)
       (inside p : Code) → IsAllowed v (Construct at class name body end)
-      → ConstructLaw v at (record { kind = type.Class class; name = name }) making inside.cells p.cells → Holds inside p
+      → ConstructLaw v at (record { kind = type.Class class; name = name }) making inside.cells p.cells → HoldsCode inside p
       → length p.cells ≤ 2 * length making + length inside.cells + 128 → length making ≤ 432
       → IsStatementCode (with_variable v (record { kind = type.Class class; name = name }))
       (New at (Object class) (Whole name)) making

@@ -18,7 +18,7 @@ use Rattle.refine_form.specs.Stands.{shape_of}
 use Rattle.branch_codegen.specs.code_scope.Visible.{Visible}
 use Rattle.branch_codegen.specs.refine_expressions.Typing.{typing_in}
 use Rattle.statement_codegen.specs.Codes.{scope_of, with_variable}
-use Rattle.statement_codegen.specs.Pieces.{IsPlace, StatementStands, StandsIn}
+use Rattle.statement_codegen.specs.Pieces.{IsSourceOffset, StatementStands, StandsIn}
 
 -- ---- parts of what holds for all
 
@@ -28,18 +28,18 @@ left P xs ys all = subst (All P) (take_at xs ys (length xs) refl) (All-take P (l
 pub right : {A : Type 0} (P : A → Type 0) (xs ys : List A) → All P (xs ++ ys) → All P ys
 right P xs ys all = subst (All P) (drop_at xs ys (length xs) refl) (All-drop P (length xs) (xs ++ ys) all)
 
-pub own_place : (x : Statement) → All IsPlace (statement_places x) → IsPlace (statement_place x)
+pub own_place : (x : Statement) → All IsSourceOffset (statement_places x) → IsSourceOffset (statement_place x)
 own_place (Update at op target value) all = all 0 0 (omega arith)
 own_place _ all = all 0 0 (omega arith)
 
 -- the places of two blocks between others
-first_of_two : (before one two after : List ℕ) → All IsPlace (before ++ one ++ two ++ after) → All IsPlace one
-first_of_two before one two after all = right IsPlace before one
-    (left IsPlace (before ++ one) two (left IsPlace (before ++ one ++ two) after all))
+first_of_two : (before one two after : List ℕ) → All IsSourceOffset (before ++ one ++ two ++ after) → All IsSourceOffset one
+first_of_two before one two after all = right IsSourceOffset before one
+    (left IsSourceOffset (before ++ one) two (left IsSourceOffset (before ++ one ++ two) after all))
 
-second_of_two : (before one two after : List ℕ) → All IsPlace (before ++ one ++ two ++ after) → All IsPlace two
-second_of_two before one two after all = right IsPlace (before ++ one) two
-    (left IsPlace (before ++ one ++ two) after all)
+second_of_two : (before one two after : List ℕ) → All IsSourceOffset (before ++ one ++ two ++ after) → All IsSourceOffset two
+second_of_two before one two after all = right IsSourceOffset (before ++ one) two
+    (left IsSourceOffset (before ++ one ++ two) after all)
 
 -- ---- the parts
 
@@ -60,7 +60,7 @@ module _ (v : Visible) where
     };
     plain = h.plain.0;
     inner_small = h.small.1;
-    places = left IsPlace (statement_places first) (block_places rest) h.places;
+    places = left IsSourceOffset (statement_places first) (block_places rest) h.places;
   }
 
   pub rest_stands : (first : Statement) (rest : Statements) → StandsIn v (Then first rest) → StandsIn v rest
@@ -69,7 +69,7 @@ module _ (v : Visible) where
     has_words = h.has_words.1;
     plain = h.plain.1;
     small = h.small.2;
-    places = right IsPlace (statement_places first) (block_places rest) h.places;
+    places = right IsSourceOffset (statement_places first) (block_places rest) h.places;
     room = let r = h.room in omega (arith, r);
   }
 
@@ -138,9 +138,9 @@ module _ (v : Visible) where
     plain = h.plain.1;
     small = h.inner_small;
     places =
-        right IsPlace (at ∷ var_places var ++ expression_places value) (block_places body)
-        (left IsPlace (at ∷ var_places var ++ expression_places value ++ block_places body) (var_places end_var)
-        (left IsPlace (at ∷ var_places var ++ expression_places value ++ block_places body ++ var_places end_var)
+        right IsSourceOffset (at ∷ var_places var ++ expression_places value) (block_places body)
+        (left IsSourceOffset (at ∷ var_places var ++ expression_places value ++ block_places body) (var_places end_var)
+        (left IsSourceOffset (at ∷ var_places var ++ expression_places value ++ block_places body ++ var_places end_var)
         (expression_places end_value) h.places));
     room = let r = h.allowed.few_locals in omega (arith, r);
   }
@@ -155,7 +155,7 @@ module _ (v : Visible) where
     has_words = h.allowed.has_words;
     plain = h.plain;
     small = h.inner_small;
-    places = right IsPlace (at ∷ class.at ∷ name.at ∷ []) (block_places body)
-        (left IsPlace (at ∷ class.at ∷ name.at ∷ block_places body) (end.at ∷ []) h.places);
+    places = right IsSourceOffset (at ∷ class.at ∷ name.at ∷ []) (block_places body)
+        (left IsSourceOffset (at ∷ class.at ∷ name.at ∷ block_places body) (end.at ∷ []) h.places);
     room = let r = h.allowed.few_locals in omega (arith, r);
   }

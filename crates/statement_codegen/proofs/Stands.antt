@@ -20,7 +20,7 @@ use Rattle.branch_codegen.specs.class_rules.Table.{table_of, class_of}
 use Rattle.branch_codegen.specs.class_rules.Refusal.{redeclared, type_differs, local_in_own_expression}
 use Rattle.branch_codegen.specs.class_rules.Scope.{Typing, Locals, local_kind, kind_of}
 use Rattle.branch_codegen.specs.class_rules.Expressions.{is_int, type_of, occurs, first_token}
-use Rattle.branch_codegen.specs.class_rules.Statements.{passed, required, in_turn, test_rules, type_known, is_nil_word, local_rules}
+use Rattle.branch_codegen.specs.class_rules.Statements.{verdict_passed, required, in_turn, test_rules, type_known, is_nil_word, local_rules}
 use Rattle.branch_codegen.specs.class_rules.Statements.{with_local, check_statements}
 use Rattle.branch_codegen.proofs.class_rules_laws.FirstPlaces.{same_name}
 use Rattle.branch_codegen.proofs.class_rules_laws.PassedRules.{both_passed, held, handed_on, both_true, neither_true, int_kind}
@@ -30,14 +30,14 @@ use Rattle.branch_codegen.proofs.meaning_sound_laws.Locals.{no_int_class, no_int
 use Rattle.refine_form.specs.Form.{Scope}
 use Rattle.refine_form.specs.Stands.{shape_of}
 use Rattle.refine_form.specs.Worlds.{Place}
-use Rattle.branch_codegen.specs.code_scope.Visible.{Visible, Known, spot_of, free_of, known_in}
+use Rattle.branch_codegen.specs.code_scope.Visible.{Visible, Known, spot_of, free_words_of, known_in}
 use Rattle.branch_codegen.specs.register_expressions.Code.{words}
 use Rattle.branch_codegen.specs.expr_uncompute.Code.{place_words}
 use Rattle.branch_codegen.specs.expr_uncompute.Promises as code
 use Rattle.branch_codegen.proofs.expr_uncompute_laws.Bounds.{words_most, place_words_most}
 use Rattle.branch_codegen.specs.method_calls.Names.{IsNull, IsInit}
 use Rattle.branch_codegen.specs.refine_calls.Laws.{IsLinked}
-use Rattle.branch_codegen.specs.refine_expressions.Typing.{known_of, HasRoom, typing_in, IsTyped, IsPassed}
+use Rattle.branch_codegen.specs.refine_expressions.Typing.{known_of, HasFrameSpace, typing_in, IsTyped, IsPassed}
 use Rattle.branch_codegen.specs.refine_expressions.Laws.{IsLaidOut}
 use Rattle.branch_codegen.proofs.refine_expressions_laws.Stated.{updates_are_told, swaps_are_told}
 use Rattle.statement_codegen.specs.Codes.{scope_of, with_variable, IsStatementCode, IsBlockCode, IsAllowed}
@@ -55,7 +55,7 @@ names_same v place same = ap (λ program. known_of program (scope_of v)) same
 -- ---- space in the frame
 
 pub room_for : (v : Visible) (n : ℕ) → length v.variables ≤ MOST_VARIABLES → n ≤ 64
-    → HasRoom (source_of v.program) (scope_of v) n
+    → HasFrameSpace (source_of v.program) (scope_of v) n
 room_for v n few small = let q : 16 + length v.variables + n ≤ 512 = omega (arith, few, small) in q
 
 few_words : (e : Expression) → nodes e ≤ 64 → words e ≤ 64
@@ -74,7 +74,7 @@ test_in v e typed has small few = record {
 -- ---- updates and swaps
 
 pub update_stands : (v : Visible) (at : ℕ) (op : UpdateOp) (target : Lvalue) (value : Expression) (all : List Symbol)
-    → code.UpdateLaw (spot_of (known_in v)) (free_of (known_in v)) op target value all
+    → code.UpdateLaw (spot_of (known_in v)) (free_words_of (known_in v)) op target value all
     → IsAllowed v (Update at op target value) → IsStatementCode v (Update at op target value) all
 update_stands v at op target value all made fine = record {
   law = λ place routine linked same.
@@ -92,12 +92,12 @@ update_stands v at op target value all made fine = record {
       updates_are_told place (laid_out place routine linked) (scope_of v) at op target value
       (subst (λ program. IsPassed program (scope_of v) (Update at op target value) (place_words target + words value))
       (sym same) ok) all
-      (subst (λ (k : Known). code.UpdateLaw (spot_of k) (free_of k) op target value all) (sym (names_same v place same))
+      (subst (λ (k : Known). code.UpdateLaw (spot_of k) (free_words_of k) op target value all) (sym (names_same v place same))
       made);
 }
 
 pub swap_stands : (v : Visible) (at : ℕ) (left right : Lvalue) (all : List Symbol)
-    → code.SwapLaw (spot_of (known_in v)) (free_of (known_in v)) left right all → IsAllowed v (Swap at left right)
+    → code.SwapLaw (spot_of (known_in v)) (free_words_of (known_in v)) left right all → IsAllowed v (Swap at left right)
     → IsStatementCode v (Swap at left right) all
 swap_stands v at left right all made fine = record {
   law = λ place routine linked same.
@@ -115,12 +115,12 @@ swap_stands v at left right all made fine = record {
       swaps_are_told place (laid_out place routine linked) (scope_of v) at left right
       (subst (λ program. IsPassed program (scope_of v) (Swap at left right) (place_words left + place_words right))
       (sym same) ok) all
-      (subst (λ (k : Known). code.SwapLaw (spot_of k) (free_of k) left right all) (sym (names_same v place same)) made);
+      (subst (λ (k : Known). code.SwapLaw (spot_of k) (free_words_of k) left right all) (sym (names_same v place same)) made);
 }
 
 -- ---- conditionals and loops
 
-both_ints : (typing : Typing) (shape : Locals) (first last : Expression) → test_rules typing shape first last ≡ passed
+both_ints : (typing : Typing) (shape : Locals) (first last : Expression) → test_rules typing shape first last ≡ verdict_passed
     → (type_of typing shape first ≡ Ok kind.Int) × (type_of typing shape last ≡ Ok kind.Int)
 both_ints typing shape first last h =
     let f = handed_on (type_of typing shape first) _ tt h in
@@ -277,9 +277,9 @@ local_stands v at var value body end_var end_value p all made fine hp = record {
       made.law place (laid_out place routine linked) (scope_of v) (names_same v place same) at body end_var x.same_name
       (subst (λ program. IsInit program (scope_of v) var value) (sym same) x.begins)
       (subst (λ program. IsInit program (scope_of v) var end_value) (sym same) x.ends)
-      (subst (λ program. HasRoom program (scope_of v) (words value)) (sym same)
+      (subst (λ program. HasFrameSpace program (scope_of v) (words value)) (sym same)
       (room_for v (words value) few' (few_words value small_value)))
-      (subst (λ program. HasRoom program (scope_of v) (words end_value)) (sym same)
+      (subst (λ program. HasFrameSpace program (scope_of v) (words end_value)) (sym same)
       (room_for v (words end_value) few' (few_words end_value small_end)))
       (hp.law place routine linked same);
 }

@@ -6,7 +6,7 @@ use Rattle.rpp_tree.specs.declared.limits.TheConstants.{MOST_NODES}
 use Rattle.rpp_tree.specs.Limits.{statement_locals}
 use Rattle.rpp_tree.specs.Tree.{Statement, Statements, Procedure, statement_nodes}
 use Rattle.rpp_tree.specs.Views.{source_of}
-use Rattle.branch_codegen.specs.class_rules.Statements.{passed, check_statement}
+use Rattle.branch_codegen.specs.class_rules.Statements.{verdict_passed, check_statement}
 use Rattle.branch_codegen.specs.meaning_sound.Plain.{StatementHasWords}
 use Rattle.branch_codegen.specs.paired_code.declared.part.Symbol.{Symbol}
 use Rattle.branch_codegen.specs.code_conventions.declared.memory.TheConstants.{MOST_VARIABLES}
@@ -48,7 +48,7 @@ pub record IsMethodCode (v : Visible) (method : Procedure) (cells : List Symbol)
 abbrev pub Passes : Visible → Statement → Type 0
 Passes v statement =
     check_statement (typing_in (source_of v.program) (scope_of v))
-    (shape_of (source_of v.program) (scope_of v)) statement ≡ passed
+    (shape_of (source_of v.program) (scope_of v)) statement ≡ verdict_passed
 
 -- a statement that the rules accept, whose literals are words, with few enough nodes, and locals in
 -- addition to what is visible

@@ -13,13 +13,13 @@ use Rattle.branch_codegen.specs.paired_code.declared.part.Symbol.{Symbol}
 use Rattle.branch_codegen.specs.roopl_semantics.Execution.{constructed, element_call, element_name}
 use Rattle.branch_codegen.specs.meaning_sound.Plain.{ReceiverIsPlain}
 use Rattle.branch_codegen.specs.code_conventions.declared.memory.TheConstants.{MOST_VARIABLES}
-use Rattle.branch_codegen.specs.code_scope.Visible.{Known, Visible, spot_of, free_of, kind_named, known_in}
+use Rattle.branch_codegen.specs.code_scope.Visible.{Known, Visible, spot_of, free_words_of, kind_named, known_in}
 use Rattle.branch_codegen.specs.register_expressions.Code.{words}
 use Rattle.branch_codegen.specs.expr_uncompute.Promises.{SwapLaw}
 use Rattle.refine_form.specs.Form.{Scope, with_var, BlockLaw, StmtLaw}
 use Rattle.refine_form.specs.Worlds.{Place, world_of}
 use Rattle.branch_codegen.specs.method_calls.Names.{IsInit}
-use Rattle.branch_codegen.specs.refine_expressions.Typing.{known_of, HasRoom}
+use Rattle.branch_codegen.specs.refine_expressions.Typing.{known_of, HasFrameSpace}
 use Rattle.branch_codegen.specs.refine_expressions.Laws.{IsLaidOut}
 use Rattle.statement_codegen.specs.Codes.{with_variable, IsStatementCode, IsBlockCode, IsMethodCode}
 use Rattle.statement_codegen.specs.Codes.{Passes, IsAllowed}
@@ -32,7 +32,7 @@ pub record LocalLaw (known : Known) (var : Var) (value last : Expression)
       → known_of place.setting.program s ≡ known
       → (at : ℕ) (body : Statements) (end_var : Var) → end_var.name.text ≡ var.name.text
       → IsInit place.setting.program s var value → IsInit place.setting.program s var last
-      → HasRoom place.setting.program s (words value) → HasRoom place.setting.program s (words last)
+      → HasFrameSpace place.setting.program s (words value) → HasFrameSpace place.setting.program s (words last)
       → BlockLaw (world_of place) (with_var s var) body p
       → StmtLaw (world_of place) s (Local at var value body end_var last) all
   pub construct : (place : Place) → IsLaidOut place → (s : Scope)
@@ -96,10 +96,10 @@ pub record ExchangedCall (v : Visible) (at : ℕ) (back : Bool) (element : Lvalu
   pub call : List Symbol
   pub last : List Symbol
   pub cells : all ≡ first ++ (call ++ last)
-  pub swaps_in : SwapLaw (spot_of (known_in v)) (free_of (known_in v)) (Whole (element_name at))
+  pub swaps_in : SwapLaw (spot_of (known_in v)) (free_words_of (known_in v)) (Whole (element_name at))
       element first
   pub calls : CallLaw v back (Some (element_name at)) method args call
-  pub swaps_out : SwapLaw (spot_of (known_in v)) (free_of (known_in v)) (Whole (element_name at))
+  pub swaps_out : SwapLaw (spot_of (known_in v)) (free_words_of (known_in v)) (Whole (element_name at))
       element last
 
 -- a call or uncall on an element, whose names are not empty, that the rules of types pass

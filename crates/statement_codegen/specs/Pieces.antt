@@ -6,7 +6,7 @@ use Rattle.rpp_tree.specs.Tree.{Statement, Statements, Source}
 use Rattle.rpp_tree.specs.Views.{source_of}
 use Rattle.rpp_tree.specs.Parts.{statement_places, block_places, statement_tokens, block_tokens}
 use Rattle.rpp_tree.specs.Limits.{locals, AreSmall, AreInnerSmall}
-use Rattle.branch_codegen.specs.class_rules.Statements.{passed, check_statements}
+use Rattle.branch_codegen.specs.class_rules.Statements.{verdict_passed, check_statements}
 use Rattle.branch_codegen.specs.paired_code.declared.part.Symbol.{Symbol}
 use Rattle.branch_codegen.specs.paired_code.Code.{Code}
 use Rattle.branch_codegen.specs.meaning_sound.Plain.{StatementIsPlain, BlockHasWords, IsPlain}
@@ -24,8 +24,8 @@ use Rattle.statement_codegen.specs.Ranges.{MarksOf, IsCovered}
 -- ---- what code is made for
 
 -- a place in a source
-abbrev pub IsPlace : ℕ → Type 0
-IsPlace at = at < MOST_BYTES
+abbrev pub IsSourceOffset : ℕ → Type 0
+IsSourceOffset at = at < MOST_BYTES
 
 -- A statement for which this is visible: it is allowed there, and the statements in it keep the
 -- limits of expressions. No name in a call on an element is empty, and its offsets are ones that a
@@ -34,7 +34,7 @@ pub record StatementStands (v : Visible) (statement : Statement) : Type 0 where
   pub allowed : IsAllowed v statement
   pub plain : StatementIsPlain statement
   pub inner_small : AreInnerSmall statement
-  pub places : All IsPlace (statement_places statement)
+  pub places : All IsSourceOffset (statement_places statement)
 
 -- A block at that position: the rules of types accept it, its literals are words, and no name in a
 -- call on an element is empty. It keeps the limits of expressions, its offsets are ones that a
@@ -42,11 +42,11 @@ pub record StatementStands (v : Visible) (statement : Statement) : Type 0 where
 pub record StandsIn (v : Visible) (body : Statements) : Type 0 where
   pub rules : check_statements (typing_in (source_of v.program) (scope_of v))
       (shape_of (source_of v.program) (scope_of v)) body
-      ≡ passed
+      ≡ verdict_passed
   pub has_words : BlockHasWords body
   pub plain : IsPlain body
   pub small : AreSmall body
-  pub places : All IsPlace (block_places body)
+  pub places : All IsSourceOffset (block_places body)
   pub room : length v.variables + locals body ≤ MOST_VARIABLES
 
 -- ---- what is made

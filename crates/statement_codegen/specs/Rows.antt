@@ -14,8 +14,8 @@ pub record Row : Type 0 where
 abbrev pub row_before : Scope → Statement → List Row → List Row
 row_before s x inner = record { scope = s; statement = x; inside = length inner } ∷ inner
 
-abbrev pub rows : Walk (Scope → List Row)
-rows = record {
+abbrev pub scope_rows : Walk (Scope → List Row)
+scope_rows = record {
   plain = λ at parts s. [];
   forked = λ at before first second after s. first s ++ second s;
   construct = λ at class name body end s.
@@ -27,8 +27,8 @@ rows = record {
 
 -- the statements in a statement
 abbrev pub inner_rows : Scope → Statement → List Row
-inner_rows s x = walk rows x s
+inner_rows s x = walk scope_rows x s
 
 -- the statements of a block, and those in them
 abbrev pub block_rows : Scope → Statements → List Row
-block_rows s body = walk_block rows body s
+block_rows s body = walk_block scope_rows body s

@@ -5,10 +5,10 @@ ghost use Rattle.std.specs.Option.{option_map, unwrap_or};
 ghost use Rattle.rpp_tree.specs.Views.{source_of};
 ghost use Rattle.branch_codegen.specs.class_rules.Table.{table_of, class_of, slot_in};
 ghost use Rattle.branch_codegen.specs.class_rules.Scope.{kind_of};
-ghost use Rattle.refine_form.specs.Held.{Holds};
+ghost use Rattle.refine_form.specs.Held.{HoldsCode};
 ghost use Rattle.branch_codegen.specs.code_scope.Visible.{spot_of as spot_of_name, known_in};
 ghost use Rattle.branch_codegen.specs.method_calls.Facts.{IsNear};
-ghost use Rattle.branch_codegen.specs.method_calls.Names.{class_of_kind, class_named, slot_of};
+ghost use Rattle.branch_codegen.specs.method_calls.Names.{class_of_kind, class_number_named, method_slot_of};
 ghost use Rattle.statement_codegen.specs.Codes.{scope_of};
 ghost use Rattle.statement_codegen.specs.Laws.{SkipLaw, CallLaw, RoutineLaw};
 
@@ -75,7 +75,7 @@ fn slot_in_table(table: &ClassTable, class: u32, name: &Text) -> u32
 }
 
 fn slot_at(scope: &Scope, class: u32, method: &Ident) -> u32
-    ensures value { result ≡ slot_of (source_of scope.now.program) class method.now }
+    ensures value { result ≡ method_slot_of (source_of scope.now.program) class method.now }
     ensures small { result < 2 ^ 20 }
 {
     let checked = scope.checked();
@@ -114,7 +114,7 @@ fn class_in(scope: &Scope, kind: &VarType) -> u32
 
 // The class of the variable of a name; the first one if it is of no class.
 fn class_at(scope: &Scope, name: &Ident) -> u32
-    ensures { result ≡ class_named (source_of scope.now.program) (scope_of scope.now) name.now }
+    ensures { result ≡ class_number_named (source_of scope.now.program) (scope_of scope.now) name.now }
 {
     match scope.kind(&name.text) {
         None => 0,
@@ -194,7 +194,7 @@ pub fn call_code(
 /// body of its routine. The only error is that memory ran out.
 pub fn method_code(alloc: Global, body: Piece, _scope: &Scope) -> Result<Piece, NoMemory>
     ensures law { IfOk result (λ p. RoutineLaw _scope.now body.cells p.cells) }
-    ensures held { IfOk result (λ p. Holds body p) }
+    ensures held { IfOk result (λ p. HoldsCode body p) }
     ensures size { IfOk result (λ p. length p.cells ≡ length body.cells + 8) }
 {
     method_calls::method_code(alloc, body)

@@ -5,7 +5,7 @@ ghost use Rattle.rpp_tree.specs.Places.{place_name};
 ghost use Rattle.rpp_tree.specs.Tree.{Whole};
 ghost use Rattle.rpp_tree.specs.Views.{lvalue_of};
 ghost use Rattle.branch_codegen.specs.code_conventions.declared.memory.TheConstants.{MOST_VARIABLES};
-ghost use Rattle.branch_codegen.specs.code_scope.Visible.{spot_of as spot_of_name, free_of, kind_named, known_in};
+ghost use Rattle.branch_codegen.specs.code_scope.Visible.{spot_of as spot_of_name, free_words_of, kind_named, known_in};
 ghost use Rattle.branch_codegen.specs.expr_uncompute.Code.{place_words as words_of_place};
 ghost use Rattle.branch_codegen.specs.expr_uncompute.Promises.{SwapLaw};
 ghost use Rattle.branch_codegen.specs.expr_uncompute.Steps.{place_tokens};
@@ -66,7 +66,7 @@ fn exchange_code(
 ) -> Result<Piece, NoMemory>
     requires room { words_of_place (lvalue_of element.now) ≤ EXPRESSION_WORDS }
     ensures law { IfOk result (λ p.
-        SwapLaw (spot_of_name (known_in scope.now)) (free_of (known_in scope.now)) (Whole name.now)
+        SwapLaw (spot_of_name (known_in scope.now)) (free_words_of (known_in scope.now)) (Whole name.now)
         (lvalue_of element.now) p.cells) }
     ensures none { IfOk result (λ p. p.marks ≡ []) }
     ensures size { IfOk result (λ p. length p.cells ≤ 80 * (2 + place_tokens (lvalue_of element.now))) }

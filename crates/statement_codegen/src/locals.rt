@@ -4,10 +4,10 @@ ghost use Rattle.branch_codegen.specs.paired_code.Layout.{mirror_cells};
 ghost use Rattle.rpp_tree.specs.declared.tree.VarType.TheVariants.{Class};
 ghost use Rattle.rpp_tree.specs.Tree.{Object, Whole};
 ghost use Rattle.rpp_tree.specs.Views.{expression_of, source_of};
-ghost use Rattle.branch_codegen.specs.code_scope.Visible.{spot_of, free_of, known_in};
+ghost use Rattle.branch_codegen.specs.code_scope.Visible.{spot_of, free_words_of, known_in};
 ghost use Rattle.branch_codegen.specs.register_expressions.Code.{words as words_of};
-ghost use Rattle.branch_codegen.specs.register_expressions.Steps.{tokens};
-ghost use Rattle.refine_form.specs.Held.{Holds};
+ghost use Rattle.branch_codegen.specs.register_expressions.Steps.{token_count};
+ghost use Rattle.refine_form.specs.Held.{HoldsCode};
 ghost use Rattle.refine_objects.specs.object_codegen.Creations.{NewLaw, creation_size};
 ghost use Rattle.statement_codegen.specs.Laws.{LocalLaw, ConstructLaw};
 
@@ -37,9 +37,9 @@ pub fn local_code(
     ensures law { IfOk result (λ p.
         LocalLaw (known_in scope.now) _var.now (expression_of value.now) (expression_of last.now)
         body.cells p.cells) }
-    ensures held { IfOk result (λ p. Holds body p) }
+    ensures held { IfOk result (λ p. HoldsCode body p) }
     ensures size { IfOk result (λ p.
-        length p.cells ≤ 58 * (tokens (expression_of value.now) + tokens (expression_of last.now)) +
+        length p.cells ≤ 58 * (token_count (expression_of value.now) + token_count (expression_of last.now)) +
         length body.cells + 12) }
 {
     let word = scope.free();
@@ -54,7 +54,7 @@ fn between_piece(alloc: Global, making: Piece, body: Piece) -> Result<Piece, NoM
     requires none { making.marks ≡ [] }
     ensures cells { IfOk result (λ p. p.cells
         ≡ making.cells ++ (body.cells ++ mirror_cells making.cells)) }
-    ensures held { IfOk result (λ p. Holds body p) }
+    ensures held { IfOk result (λ p. HoldsCode body p) }
 {
     let ending = mirror(alloc, &making)?;
     seq(making, seq(body, ending)?)
@@ -79,7 +79,7 @@ pub fn making_piece(
     scope: &Scope,
 ) -> Result<Piece, NoMemory>
     ensures law { IfOk result (λ p.
-        NewLaw (source_of scope.now.program) (spot_of (known_in scope.now)) (free_of (known_in scope.now))
+        NewLaw (source_of scope.now.program) (spot_of (known_in scope.now)) (free_words_of (known_in scope.now))
         (Object class.now) (Whole name.now) p.cells) }
     ensures marks { IfOk result (λ p. p.marks ≡ []) }
     ensures size { IfOk result (λ p.
@@ -107,7 +107,7 @@ pub fn construct_code(
 ) -> Result<Piece, NoMemory>
     requires none { making.marks ≡ [] }
     ensures law { IfOk result (λ p. ConstructLaw scope.now at _var.now making.cells body.cells p.cells) }
-    ensures held { IfOk result (λ p. Holds body p) }
+    ensures held { IfOk result (λ p. HoldsCode body p) }
     ensures size { IfOk result (λ p. length p.cells ≤ 2 * length making.cells + length body.cells + 128) }
 {
     let nothing = Expr::Nil { at };

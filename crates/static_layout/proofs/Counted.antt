@@ -7,7 +7,7 @@ use Rattle.roopl_semantics.specs.rpp_tree.declared.limits.TheConstants.{MOST_FIE
 use Rattle.roopl_semantics.specs.rpp_tree.Tree.{Source}
 use Rattle.roopl_semantics.specs.class_rules.Refusal.{refused}
 use Rattle.roopl_semantics.specs.class_rules.First.{refused_if}
-use Rattle.roopl_semantics.specs.class_rules.Rules.{name_of}
+use Rattle.roopl_semantics.specs.class_rules.Rules.{class_name}
 use Rattle.roopl_semantics.specs.class_rules.Members.{Slots, class_at, too_many_fields_at, too_many_slots_at}
 use Rattle.roopl_semantics.specs.class_rules.Classes.{class_fields, class_slots}
 use Rattle.roopl_semantics.specs.class_rules.Table.{table_of, slots_in}
@@ -24,7 +24,7 @@ farthest class = FIRST_FIELD + MOST_FIELDS + (TABLE_HEADER + MOST_METHODS) * cla
 
 -- the class table names each class
 pub many_classes : (program : Source) → length (table_of program).names ≡ length program.classes
-many_classes program = length-map program.classes name_of
+many_classes program = length-map program.classes class_name
 
 -- what is no more than a limit is not refused for it
 not_refused : {E : Type 0} (most n : ℕ) (error : E) → refused_if (nat_lt most n) error ≡ None → n ≤ most

@@ -23,7 +23,7 @@ use Rattle.refine_frame.proofs.meaning_sound_laws.Cells.{typed_of}
 use Rattle.refine_frame.proofs.meaning_sound_laws.Objects.{unheld}
 use Rattle.refine_frame.proofs.meaning_sound_laws.Plainness.{program_plain}
 use Rattle.refine_frame.proofs.meaning_sound_laws.Starting.{starting_sound, end_sound}
-use Rattle.refine_frame.specs.Open.{Setup, base_of, address_of, memory, IsGrounded}
+use Rattle.refine_frame.specs.Open.{Setup, setup_base, object_address, memory, IsGrounded}
 use Rattle.refine_frame.proofs.Memory.{base_above, address_other, read_main, read_part, memory_length, memory_is_layout}
 use Rattle.refine_frame.proofs.Tells.{IsReference, name_word, names_tell, read_head, read_count}
 use Rattle.refine_frame.proofs.Entering.{setup, starting_grounded, grounded_on}
@@ -48,7 +48,7 @@ module _ (u : Setup) (class : ℕ) (st : State) (s : Sound u.setting main_alone 
     reference_of : (n : ℕ) → IsGood st.store n → IsReference u main_alone [] class st t s.main_unheld n
     reference_of n good = record { live = good.live; no_main = good.no_main }
 
-    other : (n : ℕ) → IsGood st.store n → address_of u s.placed.at.blocks n ≡ base_of u + block_of s.placed.at.blocks n
+    other : (n : ℕ) → IsGood st.store n → object_address u s.placed.at.blocks n ≡ setup_base u + block_of s.placed.at.blocks n
     other n good = address_other u main_alone [] class st t g n good.no_main
 
     held_is : (m : ℕ) → 0 < holders m st.store → IsGood st.store m
@@ -65,17 +65,17 @@ module _ (u : Setup) (class : ℕ) (st : State) (s : Sound u.setting main_alone 
     main_is_live : is_live st.store main_name ≡ true
     main_is_live = ap is_some g.main
 
-    facts : Facts u.setting.program st.store (base_of u) s.placed.at.blocks mem
+    facts : Facts u.setting.program st.store (setup_base u) s.placed.at.blocks mem
     facts = record {
       apart = λ n m x y e. names_tell u main_alone [] class st t s.main_unheld n m (reference_of n x) (reference_of m y)
           e;
       positive = λ n x. (name_word u main_alone [] class st t s.main_unheld n (reference_of n x)).0;
-      head = λ n x. word_is mem (base_of u + block_of s.placed.at.blocks n) ∙ ap (slice_index mem) (sym (other n x))
+      head = λ n x. word_is mem (setup_base u + block_of s.placed.at.blocks n) ∙ ap (slice_index mem) (sym (other n x))
           ∙ read_head u main_alone [] class st t s.main_unheld g [] n x.live;
-      count = λ n x. word_is mem (base_of u + block_of s.placed.at.blocks n + COUNT_WORD)
+      count = λ n x. word_is mem (setup_base u + block_of s.placed.at.blocks n + COUNT_WORD)
           ∙ ap (λ a. slice_index mem (a + COUNT_WORD)) (sym (other n x))
           ∙ read_count u main_alone [] class st t s.main_unheld g [] n x.live;
-      part = λ n i x l. word_is mem (base_of u + block_of s.placed.at.blocks n + HEADER_WORDS + i)
+      part = λ n i x l. word_is mem (setup_base u + block_of s.placed.at.blocks n + HEADER_WORDS + i)
           ∙ ap (λ a. slice_index mem (a + HEADER_WORDS + i)) (sym (other n x))
           ∙ read_part u main_alone [] class st t g [] n i x.live l;
       main_part = λ i l. word_is mem _ ∙ read_main u main_alone [] class st t g [] i l;
@@ -100,7 +100,7 @@ module _ (u : Setup) (class : ℕ) (st : State) (s : Sound u.setting main_alone 
     -- if every live object is numbered, the memory's report is that of the store
     pub memory_tells : live_count st.store ≡ length (numbered st.store)
         → report_told u.setting.program mem ≡ report u.setting.program st.store
-    memory_tells live = report_is_told u.setting.program st.store (base_of u) s.placed.at.blocks mem facts
+    memory_tells live = report_is_told u.setting.program st.store (setup_base u) s.placed.at.blocks mem facts
         (2 + count_taken st.log) s.fresh small live
 
 -- the report of a memory where a run ended

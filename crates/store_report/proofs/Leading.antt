@@ -30,9 +30,9 @@ use Rattle.refine_frame.proofs.meaning_sound_laws.Stores.{same_number, other_num
 use Rattle.refine_frame.proofs.class_rules_laws.FirstPlaces.{position_cons}
 use Rattle.store_report.specs.declared.leads.Lead.{Lead}
 use Rattle.store_report.specs.Told.{value_told, values_told, head_told, address_of, lines_told, report_told}
-use Rattle.store_report.specs.Leads.{Met, lead_of, leads_of, is_reference, address_met, is_unmet, meets_one, meets}
+use Rattle.store_report.specs.Leads.{Met, lead_of, leads_of, is_reference, address_met, is_unmet, meets_one, met_leads}
 use Rattle.store_report.specs.Leads.{class_at_table, leads_at, meets_behind, goes_on, walks, met_all}
-use Rattle.store_report.specs.Shown.{value_by, values_by, head_by, addresses_of, cells_by, objects_by, report_by}
+use Rattle.store_report.specs.Shown.{lead_value, values_by, head_by, addresses_of, cells_by, objects_by, report_by}
 
 -- ---- what is among the met
 
@@ -122,23 +122,23 @@ module _ (program : Source) where
       by false false = refl
 
   meets_are : (cells : List ℕ) (met : Met) (references : List Reference) (address : ℕ) (types : List VarType)
-      → Same met references → meets cells met address (map (lead_of T) types)
+      → Same met references → met_leads cells met address (map (lead_of T) types)
       ≡ met ++ map pair (newly_reached cells references address types)
   meets_are cells met references address [] same = sym (append-nil met)
   meets_are cells met references address (t ∷ types) same =
       let w = word_at cells address in
       let r : Reference = record { at = w; type = t } in
-      ap (λ m. meets cells m (address + 1) (map (lead_of T) types)) (one_is met references t w same)
+      ap (λ m. met_leads cells m (address + 1) (map (lead_of T) types)) (one_is met references t w same)
       ∙ by (is_new references t w) (meets_are cells (met ++ pair r ∷ []) (r ∷ references) (address + 1) types
       (same_more met references r same)) (meets_are cells met references (address + 1) types same)
     where
-      by : (b : Bool) → meets cells (met ++ (word_at cells address, lead_of T t) ∷ []) (address + 1)
+      by : (b : Bool) → met_leads cells (met ++ (word_at cells address, lead_of T t) ∷ []) (address + 1)
           (map (lead_of T) types) ≡ (met ++ (word_at cells address, lead_of T t) ∷ [])
           ++ map pair (newly_reached cells (record { at = word_at cells address; type = t } ∷ references) (address + 1)
           types)
-          → meets cells met (address + 1) (map (lead_of T) types)
+          → met_leads cells met (address + 1) (map (lead_of T) types)
           ≡ met ++ map pair (newly_reached cells references (address + 1) types)
-          → meets cells (if b then met ++ (word_at cells address, lead_of T t) ∷ [] else met) (address + 1)
+          → met_leads cells (if b then met ++ (word_at cells address, lead_of T t) ∷ [] else met) (address + 1)
           (map (lead_of T) types) ≡ met ++ map pair (if b then record { at = word_at cells address; type = t }
           ∷ newly_reached cells (record { at = word_at cells address; type = t } ∷ references) (address + 1) types
           else newly_reached cells references (address + 1) types)
@@ -186,20 +186,20 @@ module _ (program : Source) where
         (types_at program cells r))
     behind_is cells references r = by r.type (word_at cells r.at)
       where
-        by : (t : VarType) (word : ℕ) → meets cells (map pair references) (r.at + HEADER_WORDS)
+        by : (t : VarType) (word : ℕ) → met_leads cells (map pair references) (r.at + HEADER_WORDS)
             (leads_at T tables (lead_of T t) word) ≡ map pair references
             ++ map pair (newly_reached cells references (r.at + HEADER_WORDS) (cell_types program t word))
         by type.Int word = sym (append-nil (map pair references))
         by (type.Class name) word =
-            ap (λ vars. meets cells (map pair references) (r.at + HEADER_WORDS) (leads_of T vars)) (fields_same word)
-            ∙ ap (meets cells (map pair references) (r.at + HEADER_WORDS))
+            ap (λ vars. met_leads cells (map pair references) (r.at + HEADER_WORDS) (leads_of T vars)) (fields_same word)
+            ∙ ap (met_leads cells (map pair references) (r.at + HEADER_WORDS))
             (leads_are (class_fields program (class_at_table tables word)))
             ∙ meets_are cells (map pair references) references (r.at + HEADER_WORDS)
             (types_of (class_fields program (class_at_table tables word))) (same_pairs references)
         by type.IntArray word = sym (ap (λ z. map pair references ++ map pair z)
             (no_ints cells references word (r.at + HEADER_WORDS)) ∙ append-nil (map pair references))
         by (type.ClassArray name) word =
-            ap (meets cells (map pair references) (r.at + HEADER_WORDS))
+            ap (met_leads cells (map pair references) (r.at + HEADER_WORDS))
             (sym (map_replicate (lead_of T) word (type.Class name)))
             ∙ meets_are cells (map pair references) references (r.at + HEADER_WORDS) (replicate word (type.Class name))
             (same_pairs references)
@@ -246,14 +246,14 @@ module _ (program : Source) where
     pub met_is : (cells : List ℕ) → met_all T tables (main_fields program) cells ≡ map pair (reached program cells)
     met_is cells =
         let first = newly_reached cells [] (statics_at + HEADER_WORDS) (types_of (main_fields program)) in
-        ap (λ m. walks (length cells) T tables cells m 0) (ap (meets cells [] (statics_at + HEADER_WORDS))
+        ap (λ m. walks (length cells) T tables cells m 0) (ap (met_leads cells [] (statics_at + HEADER_WORDS))
         (leads_are (main_fields program)) ∙ meets_are cells [] [] (statics_at + HEADER_WORDS)
         (types_of (main_fields program)) (λ w. refl))
         ∙ walks_are cells (length cells) first first 0 refl
 
     -- ---- the text
 
-    value_is : (t : VarType) (w : ℕ) → value_by (lead_of T t) w ≡ value_told t w
+    value_is : (t : VarType) (w : ℕ) → lead_value (lead_of T t) w ≡ value_told t w
     value_is type.Int w = refl
     value_is (type.Class name) w = refl
     value_is type.IntArray w = refl

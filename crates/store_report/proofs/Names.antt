@@ -13,7 +13,7 @@ use Rattle.refine_frame.proofs.rpp_words_laws.AsciiNames.{name_bytes_ascii}
 use Rattle.rpp_tree.specs.Names.{IsName}
 use Rattle.rpp_tree.specs.Parts.{type_names, var_names, procedure_names, parent_names, class_names, source_names}
 use Rattle.rpp_tree.specs.Tree.{ClassText, Source}
-use Rattle.refine_frame.specs.class_rules.Chains.{line_of}
+use Rattle.refine_frame.specs.class_rules.Chains.{class_line}
 use Rattle.refine_frame.specs.class_rules.First.{each_below}
 use Rattle.refine_frame.specs.class_rules.Members.{class_at, no_class, fields_along}
 use Rattle.refine_frame.specs.class_rules.Table.{table_of, fields_in}
@@ -73,11 +73,11 @@ ascii_along program (class ∷ below) all =
     (ascii_at program.classes class all) (ascii_along program below all)
 
 pub ascii_main_fields : (program : Source) → IsAccepted program → All HasAsciiName (main_fields program)
-ascii_main_fields program accepted = ascii_along program (line_of program (main_of program).class) accepted.limits.names
+ascii_main_fields program accepted = ascii_along program (class_line program (main_of program).class) accepted.limits.names
 
 pub ascii_class_fields : (program : Source) (class : ℕ) → IsAccepted program
     → All HasAsciiName (class_fields program class)
-ascii_class_fields program class accepted = ascii_along program (line_of program class) accepted.limits.names
+ascii_class_fields program class accepted = ascii_along program (class_line program class) accepted.limits.names
 
 -- the names of its classes are too
 

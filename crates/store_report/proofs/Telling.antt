@@ -22,12 +22,12 @@ use Rattle.refine_frame.specs.class_rules.Classes.{main_of}
 use Rattle.static_layout.specs.roopl_semantics.Agreement.{renamed}
 use Rattle.static_layout.specs.roopl_semantics.Laws.{holders_among, holders}
 use Rattle.static_layout.specs.roopl_semantics.Report.{newly_met}
-use Rattle.static_layout.specs.roopl_semantics.Layout.{word_of, head_word, table_at}
+use Rattle.static_layout.specs.roopl_semantics.Layout.{word_of_value, head_word, table_at}
 use Rattle.static_layout.specs.roopl_semantics.Walk.{class_with_table, types_of, Reference, cell_types, types_at, is_new}
 use Rattle.static_layout.specs.roopl_semantics.Walk.{newly_reached, reached_within}
 use Rattle.pisa_machine.specs.pisa_isa.Loaded.{statics_at}
 use Rattle.pisa_machine.specs.pisa_isa.Machine.{word_at}
-use Rattle.refine_frame.specs.meaning_sound.Sound.{head_of, head_named, head_fits, named_fits, fits, cell_kinds, is_live, AllFit}
+use Rattle.refine_frame.specs.meaning_sound.Sound.{head_of, head_named, head_fits, named_fits, is_of_kind, cell_kinds, is_live, AllFit}
 use Rattle.refine_frame.proofs.meaning_sound_laws.Stores.{same_number, other_number, differs, live_object}
 use Rattle.refine_frame.proofs.class_rules_laws.FoundMethods.{own_range}
 use Rattle.refine_frame.specs.class_rules.Inheritance.{kind_of_var}
@@ -48,10 +48,10 @@ pub record Facts (program : Source) (store : Store) (base : ℕ) (blocks : List 
       ≡ head_word program (object_at store n).head
   pub count : (n : ℕ) → IsGood store n → word_at mem (base + block_of blocks n + COUNT_WORD) ≡ (object_at store n).count
   pub part : (n i : ℕ) → IsGood store n → i < length (object_at store n).cells
-      → word_at mem (base + block_of blocks n + HEADER_WORDS + i) ≡ word_of base blocks
+      → word_at mem (base + block_of blocks n + HEADER_WORDS + i) ≡ word_of_value base blocks
       (unwrap_or (slice_get (object_at store n).cells i) Nil)
   pub main_part : (i : ℕ) → i < length (object_at store main_name).cells
-      → word_at mem (statics_at + HEADER_WORDS + i) ≡ word_of base blocks
+      → word_at mem (statics_at + HEADER_WORDS + i) ≡ word_of_value base blocks
       (unwrap_or (slice_get (object_at store main_name).cells i) Nil)
   pub typed : (n : ℕ) (o : Object) → object_named store n ≡ Some o
       → AllFit program store (cell_kinds program o.head) o.cells
@@ -168,11 +168,11 @@ module _ (program : Source) (store : Store) (base : ℕ) (blocks : List (ℕ × 
   Tells address [] [] = Unit {0}
   Tells address [] (v ∷ vs) = ⊥
   Tells address (t ∷ ts) [] = ⊥
-  Tells address (t ∷ ts) (v ∷ vs) = (word_at mem address ≡ word_of base blocks v)
-      × (fits program store v (kind_told t) ≡ true) × Tells (address + 1) ts vs
+  Tells address (t ∷ ts) (v ∷ vs) = (word_at mem address ≡ word_of_value base blocks v)
+      × (is_of_kind program store v (kind_told t) ≡ true) × Tells (address + 1) ts vs
 
   pub tells_from : (address : ℕ) (ts : List VarType) (vs : List Value) → AllFit program store (map kind_told ts) vs
-      → ((i : ℕ) → i < length vs → word_at mem (address + i) ≡ word_of base blocks (unwrap_or (slice_get vs i) Nil))
+      → ((i : ℕ) → i < length vs → word_at mem (address + i) ≡ word_of_value base blocks (unwrap_or (slice_get vs i) Nil))
       → Tells address ts vs
   tells_from address [] [] all h = tt
   tells_from address [] (v ∷ vs) all h = absurd all
@@ -212,16 +212,16 @@ module _ (program : Source) (store : Store) (base : ℕ) (blocks : List (ℕ × 
       no_int None q = cc
       no_int (Some hd) q = cc
 
-      class_no_word : (o : Option ℕ) (w : ℕ) → fits program store (Word w) (class_kind o) ≡ true → ⊥
+      class_no_word : (o : Option ℕ) (w : ℕ) → is_of_kind program store (Word w) (class_kind o) ≡ true → ⊥
       class_no_word None w q = cc
       class_no_word (Some c) w q = cc
 
-      array_no_word : (o : Option ℕ) (w : ℕ) → fits program store (Word w) (array_kind o) ≡ true → ⊥
+      array_no_word : (o : Option ℕ) (w : ℕ) → is_of_kind program store (Word w) (array_kind o) ≡ true → ⊥
       array_no_word None w q = cc
       array_no_word (Some c) w q = cc
 
-      one : (t : VarType) (v : Value) → fits program store v (kind_told t) ≡ true
-          → ((n : ℕ) → v ≡ Name n → IsGood store n) → value_told t (word_of base blocks v) ≡ renamed there v
+      one : (t : VarType) (v : Value) → is_of_kind program store v (kind_told t) ≡ true
+          → ((n : ℕ) → v ≡ Name n → IsGood store n) → value_told t (word_of_value base blocks v) ≡ renamed there v
       one type.Int (Word w) f good = refl
       one type.Int Nil f good = absurd (cc)
       one type.Int (Name n) f good = absurd (no_int (head_named store n) f)
@@ -248,15 +248,15 @@ module _ (program : Source) (store : Store) (base : ℕ) (blocks : List (ℕ × 
   newly_told met names address (t ∷ ts) (Word w ∷ vs) rel h g =
       by t h.1 (newly_told met names (address + 1) ts vs rel h.2 (λ m p. g m (omega arith)))
     where
-      class_no_word : (o : Option ℕ) → fits program store (Word w) (class_kind o) ≡ true → ⊥
+      class_no_word : (o : Option ℕ) → is_of_kind program store (Word w) (class_kind o) ≡ true → ⊥
       class_no_word None q = cc
       class_no_word (Some c) q = cc
 
-      array_no_word : (o : Option ℕ) → fits program store (Word w) (array_kind o) ≡ true → ⊥
+      array_no_word : (o : Option ℕ) → is_of_kind program store (Word w) (array_kind o) ≡ true → ⊥
       array_no_word None q = cc
       array_no_word (Some c) q = cc
 
-      by : (t : VarType) → fits program store (Word w) (kind_told t) ≡ true
+      by : (t : VarType) → is_of_kind program store (Word w) (kind_told t) ≡ true
           → Rel (newly_reached mem met (address + 1) ts) (newly_met names vs)
           → Rel (newly_reached mem met address (t ∷ ts)) (newly_met names vs)
       by type.Int f rest = rest
@@ -302,7 +302,7 @@ module _ (program : Source) (store : Store) (base : ℕ) (blocks : List (ℕ × 
           ∙ ap not (met_told met names n rel good)
 
       is_new_is : (t : VarType) (w : ℕ) → w ≡ there n → IsGood store n
-          → fits program store (Name n) (kind_told t) ≡ true → is_new met t w ≡ not (list_any (nat_eq n) names)
+          → is_of_kind program store (Name n) (kind_told t) ≡ true → is_new met t w ≡ not (list_any (nat_eq n) names)
       is_new_is type.Int w e good f = absurd (no_int (head_named store n) f)
       is_new_is (type.Class name) w e good f = new_word w e good
       is_new_is type.IntArray w e good f = new_word w e good

@@ -1,6 +1,5 @@
 -- The walk of a memory as the code makes it: a list of what is met, each address with what it leads
--- to,
--- that grows at its end.
+-- to, that grows at its end.
 use Rattle.std.specs.Prelude.{ℕ, zero, suc, ◌+◌, Bool, true, false, not, ◌&&◌, nat_eq, is_none}
 use Rattle.std.specs.Prelude.{position, List, [], ◌∷◌, map, length, replicate, Option, Some, None}
 use Rattle.std.specs.Prelude.{slice_get, if◌then◌else◌}
@@ -50,10 +49,10 @@ meets_one met lead word =
     then insert_entry nat_eq met word lead else met
 
 -- after the cells from an address on
-abbrev pub meets : List ℕ → Met → ℕ → List Lead → Met
-meets cells met address [] = met
-meets cells met address (lead ∷ leads) =
-    meets cells (meets_one met lead (word_at cells address)) (address + 1) leads
+abbrev pub met_leads : List ℕ → Met → ℕ → List Lead → Met
+met_leads cells met address [] = met
+met_leads cells met address (lead ∷ leads) =
+    met_leads cells (meets_one met lead (word_at cells address)) (address + 1) leads
 
 -- the class whose table is at an address
 abbrev pub class_at_table : List ℕ → ℕ → ℕ
@@ -69,7 +68,7 @@ leads_at table tables (lead.Objects class) head = replicate head lead.Object
 
 abbrev pub meets_behind : Table → List ℕ → List ℕ → Met → ℕ × Lead → Met
 meets_behind table tables cells met entry =
-    meets cells met (entry.0 + HEADER_WORDS) (leads_at table tables entry.1 (word_at cells entry.0))
+    met_leads cells met (entry.0 + HEADER_WORDS) (leads_at table tables entry.1 (word_at cells entry.0))
 
 -- goes on with what was met at this place
 abbrev pub goes_on : Option (ℕ × Lead) → Met → (ℕ × Lead → Met) → Met
@@ -86,5 +85,5 @@ walks (suc steps) table tables cells met next =
 -- what is met from the main object's fields on
 abbrev pub met_all : Table → List ℕ → List Var → List ℕ → Met
 met_all table tables fields cells =
-    walks (length cells) table tables cells (meets cells [] (statics_at + HEADER_WORDS)
+    walks (length cells) table tables cells (met_leads cells [] (statics_at + HEADER_WORDS)
     (leads_of table fields)) 0

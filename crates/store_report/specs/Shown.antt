@@ -15,17 +15,17 @@ use Rattle.store_report.specs.Told.{reference_told}
 use Rattle.store_report.specs.Leads.{Met, address_met, leads_of, class_at_table, met_all}
 
 -- the meaning of a word
-abbrev pub value_by : Lead → ℕ → Value
-value_by lead.Int word = Word word
-value_by lead.Object word = reference_told word
-value_by lead.Ints word = reference_told word
-value_by (lead.Objects class) word = reference_told word
+abbrev pub lead_value : Lead → ℕ → Value
+lead_value lead.Int word = Word word
+lead_value lead.Object word = reference_told word
+lead_value lead.Ints word = reference_told word
+lead_value (lead.Objects class) word = reference_told word
 
 -- the meaning of the cells from an address on
 abbrev pub values_by : List ℕ → ℕ → List Lead → List Value
 values_by cells address [] = []
 values_by cells address (lead ∷ leads) =
-    value_by lead (word_at cells address) ∷ values_by cells (address + 1) leads
+    lead_value lead (word_at cells address) ∷ values_by cells (address + 1) leads
 
 abbrev pub head_by : List ℕ → Lead → ℕ → Head
 head_by tables lead.Int word = OfInts 0

@@ -15,7 +15,7 @@ ghost use Rattle.refine_frame.specs.code_conventions.declared.memory.TheConstant
 ghost use Rattle.store_report.specs.Ascii.{HasAsciiName, AreAscii};
 ghost use Rattle.store_report.specs.Leads.{leads_of};
 ghost use Rattle.store_report.specs.Memory.{IsMemoryOf, IsFirstMemoryOf};
-ghost use Rattle.store_report.specs.Shown.{value_by, values_by, head_by, addresses_of, cells_by, object_by, objects_by, report_by};
+ghost use Rattle.store_report.specs.Shown.{lead_value, values_by, head_by, addresses_of, cells_by, object_by, objects_by, report_by};
 ghost use Rattle.store_report.specs.Told.{report_told};
 
 use crate::leads::{Lead, class_at_table, lead_of};
@@ -94,7 +94,7 @@ fn add_value(
     word: u32,
 ) -> Result<(), AllocError>
     ensures { OnOk result (string_bytes out.new
-        ≡ string_bytes out.old ++ value_shown (addresses_of met.now.entries) (value_by lead word)) }
+        ≡ string_bytes out.old ++ value_shown (addresses_of met.now.entries) (lead_value lead word)) }
 {
     if !lead.is_reference() {
         return add_word(out, word);
@@ -117,7 +117,7 @@ fn add_field(
     requires { IsAscii name.now }
     ensures { OnOk result (string_bytes out.new
         ≡ string_bytes out.old ++ (indent.now ++ name.now ++ codes " = "
-        ++ value_shown (addresses_of met.now.entries) (value_by lead word) ++ line_end)) }
+        ++ value_shown (addresses_of met.now.entries) (lead_value lead word) ++ line_end)) }
 {
     out.push_str(indent)?;
     add_name(out, name)?;
@@ -165,7 +165,7 @@ fn add_element(
 ) -> Result<(), AllocError>
     ensures { OnOk result (string_bytes out.new
         ≡ string_bytes out.old ++ (codes "  [" ++ decimal index ++ codes "] = "
-        ++ value_shown (addresses_of met.now.entries) (value_by lead word) ++ line_end)) }
+        ++ value_shown (addresses_of met.now.entries) (lead_value lead word) ++ line_end)) }
 {
     write!(out, "  [{index}] = ")?;
     add_value(out, met, lead, word)?;

@@ -3,7 +3,7 @@ ghost use Rattle.std.specs.Prelude.{◌≡◌, ◌≤◌, ◌<◌, ◌+◌, ◌^
 ghost use Rattle.rpp_tree.specs.declared.limits.TheConstants.{MOST_FIELDS, MOST_CLASSES};
 ghost use Rattle.refine_frame.specs.code_conventions.declared.memory.TheConstants.{FIRST_FIELD};
 ghost use Rattle.store_report.specs.declared.leads.Lead.TheVariants as lead;
-ghost use Rattle.store_report.specs.Leads.{meets_one, meets, leads_of, meets_behind, walks, met_all};
+ghost use Rattle.store_report.specs.Leads.{meets_one, met_leads, leads_of, meets_behind, walks, met_all};
 
 use crate::leads::{Lead, class_at_table, lead_of};
 use class_table::ClassTable;
@@ -54,7 +54,7 @@ fn meet_fields(
     requires few { length fields.now ≤ MOST_FIELDS }
     requires low { at < 2 ^ 40 }
     ensures { OnOk result (met.new.entries
-        ≡ meets machine.now.state.cells met.old.entries at (leads_of table.now fields.now)) }
+        ≡ met_leads machine.now.state.cells met.old.entries at (leads_of table.now fields.now)) }
 {
     for (number, field) in fields.iter().enumerate() {
         meet(
@@ -75,7 +75,7 @@ fn meet_elements(
 ) -> Result<(), NoMemory>
     requires low { at < 2 ^ 40 }
     ensures { OnOk result (met.new.entries
-        ≡ meets machine.now.state.cells met.old.entries at (replicate count lead.Object)) }
+        ≡ met_leads machine.now.state.cells met.old.entries at (replicate count lead.Object)) }
 {
     for number in 0..count {
         meet(met, Lead::Object, word_at(machine, at + u64::from(number)))?;

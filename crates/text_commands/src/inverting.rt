@@ -5,7 +5,7 @@ ghost use Rattle.roopl_judge.specs.rpp_tree.declared.limits.TheConstants.{MOST_B
 ghost use Rattle.meaning_inverse.specs.inverse_rules.Inverse.{inverse_program};
 ghost use Rattle.roopl_printer.specs.Spelled.{printed};
 ghost use Rattle.command_plan.specs.Plans.{planned, GivesPlan};
-ghost use Rattle.command_plan.specs.Files.{OnlyReads, source};
+ghost use Rattle.command_plan.specs.Files.{OnlyReads, source_file};
 ghost use Rattle.text_commands.specs.TextPlans.{writes_text, IsInversePlan, ShowsInverse};
 
 use crate::writing::write_text;
@@ -28,7 +28,7 @@ pub fn show_inverse<S: Shelf>(
 ) -> Result<Plan, NoPlan>
     ensures plan { GivesPlan (S.texts shelf.old) (ShowsInverse file.now out.now) result }
     ensures reads { OnlyReads (S.texts shelf.old) (S.texts shelf.new) (S.faults shelf.old)
-        (S.faults shelf.new) (source file.now ∷ []) result }
+        (S.faults shelf.new) (source_file file.now ∷ []) result }
 {
     let text = read_file(alloc, shelf, file, MOST_BYTES as u64)?;
     Ok(invert_text(alloc, &text, out)?)

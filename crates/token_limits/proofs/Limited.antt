@@ -14,11 +14,11 @@ use Rattle.roopl_parser.specs.declared.error.ParseError.TheVariants.{Syntax, Lim
 use Rattle.roopl_parser.specs.Grammar.{Derives, IsClasses, no_class}
 use Rattle.token_limits.specs.Laws.{Agrees}
 use Rattle.token_limits.specs.Limits as counts
-use Rattle.token_limits.specs.Limits.{Begins, passes as counted_passes}
-use Rattle.roopl_parser.specs.Reader.{Value, Part, Mark, Step, Classes, Program, Wrong, Next, passed}
+use Rattle.token_limits.specs.Limits.{Begins, count_passes as counted_passes}
+use Rattle.roopl_parser.specs.Reader.{ParsedValue, Part, Mark, Step, Classes, Program, Wrong, Next, passed}
 use Rattle.roopl_parser.specs.Reader.{walk, scan, ends, led}
 use Rattle.roopl_parser.specs.Viable.{IsViable, IsWrongAt, Behind, passing_by, passing, passes, too_many, or_else}
-use Rattle.roopl_parser.specs.Viable.{first_limit, place_of}
+use Rattle.roopl_parser.specs.Viable.{first_limit, offset_at}
 use Rattle.roopl_parser.proofs.Sound.{Gen, Then_gen, walk_sound}
 use Rattle.roopl_parser.proofs.Productive.{productive}
 use Rattle.roopl_parser.proofs.Complete.{classes_read}
@@ -28,7 +28,7 @@ use Rattle.roopl_parser.proofs.Fault.{bracket}
 abbrev start : List Part
 start = Program 0 ∷ []
 
-abbrev none_yet : List Value
+abbrev none_yet : List ParsedValue
 none_yet = Classes [] ∷ []
 
 abbrev source : List ClassText → Source
@@ -47,7 +47,7 @@ accepted : (end : ℕ) (ts : List Token) (x : List ClassText) → IsClasses ts [
 accepted end ts x d = classes_read false end d 0 (λ t. absurd (not_true t)) (λ t. absurd (not_true t))
     (λ t. absurd (not_true t)) (refl, refl, refl, (refl, λ j l. refl)) refl refl [] [] [] ∙ ends_here end x
 
-from_gen : (ts : List Token) (q : Value) → Gen start none_yet ts q → (x : List ClassText) × IsClasses ts [] x
+from_gen : (ts : List Token) (q : ParsedValue) → Gen start none_yet ts q → (x : List ClassText) × IsClasses ts [] x
 from_gen ts q (inl g) =
     let P : List Token → Type 0 = λ r. IsClasses r [] [] in
     ([], subst P (sym g.0) no_class)
@@ -56,63 +56,63 @@ from_gen ts q (inr g) =
     (g.1, subst P g.3.0 g.2)
 
 -- where the reader is after some first tokens of a program
-record After (front : List Token) (n : ℕ) (s : List Part) (vs : List Value) : Type 0 where
+record After (front : List Token) (n : ℕ) (s : List Part) (vs : List ParsedValue) : Type 0 where
   nodes : ℕ
   stack : List Part
-  values : List Value
+  values : List ParsedValue
   same : (rest : List Token) (x : Option ℕ) → Agrees (passes rest nodes stack values) x
-      → Agrees (passes (front ++ rest) n s vs) (option_or (counts.passes front n (outline s)) x)
-  behind : (rest : List Token) (q : Value) → Gen stack values rest q → Gen s vs (front ++ rest) q
+      → Agrees (passes (front ++ rest) n s vs) (option_or (counts.count_passes front n (outline s)) x)
+  behind : (rest : List Token) (q : ParsedValue) → Gen stack values rest q → Gen s vs (front ++ rest) q
 
-fits_of : (mark : Mark) (n : ℕ) (s : List Part) (vs : List Value) (to : counts.Step) → Follows (Next mark n s vs) to
+fits_of : (mark : Mark) (n : ℕ) (s : List Part) (vs : List ParsedValue) (to : counts.CountStep) → Follows (Next mark n s vs) to
     → Fits n s
 fits_of mark n s vs (counts.To which m u) h = h.3
 
-by_limit : (at : ℕ) (which : Option LimitKind) (full : Bool) (n : ℕ) (u : List counts.Part)
-    (next : ℕ → List counts.Part → Option ℕ) (found : Option ParseError) (x : Option ℕ) → is_some which ≡ full
+by_limit : (at : ℕ) (which : Option LimitKind) (full : Bool) (n : ℕ) (u : List counts.CountPart)
+    (next : ℕ → List counts.CountPart → Option ℕ) (found : Option ParseError) (x : Option ℕ) → is_some which ≡ full
     → Agrees found (option_or (next n u) x)
-    → Agrees (passing_by at which found) (option_or (counts.passing at next (counts.To full n u)) x)
+    → Agrees (passing_by at which found) (option_or (counts.count_passing at next (counts.To full n u)) x)
 by_limit at None false n u next found x e h = h
 by_limit at None true n u next found x e h = cc
 by_limit at (Some which) false n u next found x e h = cc
 by_limit at (Some which) true n u next found x e h = refl
 
 -- one token more
-one_more : (at : ℕ) (b : Bool) (mark : Mark) (n : ℕ) (s : List Part) (vs : List Value) (to : counts.Step)
-    (next : ℕ → List counts.Part → Option ℕ) (found : Option ParseError) (x : Option ℕ)
+one_more : (at : ℕ) (b : Bool) (mark : Mark) (n : ℕ) (s : List Part) (vs : List ParsedValue) (to : counts.CountStep)
+    (next : ℕ → List counts.CountPart → Option ℕ) (found : Option ParseError) (x : Option ℕ)
     → Follows (Next mark n s vs) to → Agrees found (option_or (next n (outline s)) x)
-    → Agrees (passing_by at (passed mark b) found) (option_or (counts.passing at next to) x)
+    → Agrees (passing_by at (passed mark b) found) (option_or (counts.count_passing at next to) x)
 one_more at b mark n s vs (counts.To full m u) next found x h e =
     let P : ℕ → Type 0 = λ k. Agrees found (option_or (next k u) x) in
-    let Q : List counts.Part → Type 0 = λ v. Agrees found (option_or (next n v) x) in
+    let Q : List counts.CountPart → Type 0 = λ v. Agrees found (option_or (next n v) x) in
     by_limit at (passed mark b) full m u next found x (h.0 b) (subst P h.1 (subst Q h.2 e))
 
-after_step : (end : ℕ) (t : Token) (ts more : List Token) (n : ℕ) (s : List Part) (vs : List Value) (q : Value)
+after_step : (end : ℕ) (t : Token) (ts more : List Token) (n : ℕ) (s : List Part) (vs : List ParsedValue) (q : ParsedValue)
     (step : Step) → walk s n vs t ≡ step → Fits n s
-    → ((m : ℕ) (u : List Part) (ws : List Value) → Fits m u → scan false end (ts ++ more) m u ws ≡ Ok q
+    → ((m : ℕ) (u : List Part) (ws : List ParsedValue) → Fits m u → scan false end (ts ++ more) m u ws ≡ Ok q
     → After ts m u ws)
     → led false t.at (bracket (ts ++ more)) (scan false end (ts ++ more)) step ≡ Ok q → After (t ∷ ts) n s vs
 unfolding passes counted_passes
 after_step end t ts more n s vs q Wrong w h below e = cc
 after_step end t ts more n s vs q (Next mark n' s' vs') w h below e =
-    let P : Step → Type 0 = λ x. Follows x (counts.walk (outline s) n t.kind) in
+    let P : Step → Type 0 = λ x. Follows x (counts.count_walk (outline s) n t.kind) in
     let follows = subst P w (walk_follows s n vs t h) in
-    let a = below n' s' vs' (fits_of mark n' s' vs' (counts.walk (outline s) n t.kind) follows) e in
+    let a = below n' s' vs' (fits_of mark n' s' vs' (counts.count_walk (outline s) n t.kind) follows) e in
     record {
       nodes = a.nodes;
       stack = a.stack;
       values = a.values;
       same = λ rest x g.
           let Q : Step → Type 0 = λ y. Agrees (passing t.at (bracket (ts ++ rest)) (passes (ts ++ rest)) y)
-          (option_or (counts.passing t.at (counts.passes ts) (counts.walk (outline s) n t.kind)) x) in
-          subst Q (sym w) (one_more t.at (bracket (ts ++ rest)) mark n' s' vs' (counts.walk (outline s) n t.kind)
-          (counts.passes ts) (passes (ts ++ rest) n' s' vs') x follows (a.same rest x g));
+          (option_or (counts.count_passing t.at (counts.count_passes ts) (counts.count_walk (outline s) n t.kind)) x) in
+          subst Q (sym w) (one_more t.at (bracket (ts ++ rest)) mark n' s' vs' (counts.count_walk (outline s) n t.kind)
+          (counts.count_passes ts) (passes (ts ++ rest) n' s' vs') x follows (a.same rest x g));
       behind = λ rest q g.
           let Q : Step → Type 0 = λ x. Then_gen x (ts ++ rest) q in
           walk_sound s n vs t (ts ++ rest) q (subst Q (sym w) (a.behind rest q g));
     }
 
-after : (end : ℕ) (front more : List Token) (n : ℕ) (s : List Part) (vs : List Value) (q : Value) → Fits n s
+after : (end : ℕ) (front more : List Token) (n : ℕ) (s : List Part) (vs : List ParsedValue) (q : ParsedValue) → Fits n s
     → scan false end (front ++ more) n s vs ≡ Ok q → After front n s vs
 unfolding scan passes counted_passes
 after end [] more n s vs q h e =
@@ -127,15 +127,15 @@ after_viable front v = after 0 front v.0 0 start none_yet (Classes v.1.classes) 
 -- ---- tokens of a program
 
 abbrev counted : List Token → Option ℕ
-counted front = counts.passes front 0 (counts.Program 0 ∷ [])
+counted front = counts.count_passes front 0 (counts.Program 0 ∷ [])
 
 by_count : (many : Bool) (which : LimitKind) (at : ℕ)
     → Agrees (cond many (Some (Limit which at)) None) (cond many (Some at) None)
 by_count true which at = refl
 by_count false which at = tt
 
-many_agree : (tokens : List Token) → Agrees (too_many tokens) (counts.too_many tokens)
-many_agree tokens = by_count (nat_lt MOST_TOKENS (length tokens)) Tokens (place_of 0 (drop MOST_TOKENS tokens))
+many_agree : (tokens : List Token) → Agrees (too_many tokens) (counts.count_too_many tokens)
+many_agree tokens = by_count (nat_lt MOST_TOKENS (length tokens)) Tokens (offset_at 0 (drop MOST_TOKENS tokens))
 
 by_both : (m a : Option ParseError) (c d : Option ℕ) → Agrees m c → Agrees a d
     → Agrees (or_else m a) (option_or c d)
@@ -152,21 +152,21 @@ nothing_more m (Some at) h = h
 
 -- no later token passes a limit
 none_more : (tokens front rest : List Token) (a : After front 0 start none_yet) → tokens ≡ front ++ rest
-    → passes rest a.nodes a.stack a.values ≡ None → Agrees (first_limit tokens) (counts.first_limit tokens front)
+    → passes rest a.nodes a.stack a.values ≡ None → Agrees (first_limit tokens) (counts.count_first_limit tokens front)
 none_more tokens front rest a all none =
     let P : Option ParseError → Type 0 = λ m. Agrees m None in
     let Q : List Token → Type 0 = λ l. Agrees (passes l 0 start none_yet) (counted front) in
     let last : Agrees (passes rest a.nodes a.stack a.values) None = subst P (sym none) tt in
-    by_both (too_many tokens) (passes tokens 0 start none_yet) (counts.too_many tokens) (counted front)
+    by_both (too_many tokens) (passes tokens 0 start none_yet) (counts.count_too_many tokens) (counted front)
     (many_agree tokens) (subst Q (sym all) (nothing_more (passes (front ++ rest) 0 start none_yet) (counted front)
     (a.same rest None last)))
 
-passes_end : (n : ℕ) (s : List Part) (vs : List Value) → passes [] n s vs ≡ None
+passes_end : (n : ℕ) (s : List Part) (vs : List ParsedValue) → passes [] n s vs ≡ None
 unfolding passes
 passes_end n s vs = refl
 
 pub derived_limit : (tokens : List Token) (x : Source) → Derives tokens x
-    → Agrees (first_limit tokens) (counts.first_limit tokens tokens)
+    → Agrees (first_limit tokens) (counts.count_first_limit tokens tokens)
 derived_limit tokens x d =
     let P : List Token → Type 0 = λ l. IsClasses l [] x.classes in
     let a = after_viable tokens ([], x, subst P (sym (append-nil tokens)) d) in
@@ -195,7 +195,7 @@ none_behind front (t ∷ ts) a dead =
     wrong_step front a t ts (walk a.stack a.nodes a.values t) refl (λ more x. dead (t ∷ more) x (more, refl))
 
 pub wrong_limit : (end : ℕ) (tokens : List Token) (at : ℕ) (w : IsWrongAt end tokens at)
-    → Agrees (first_limit tokens) (counts.first_limit tokens w.front)
+    → Agrees (first_limit tokens) (counts.count_first_limit tokens w.front)
 wrong_limit end tokens at w =
     let a = after_viable w.front w.viable in
     none_more tokens w.front w.rest a w.all (none_behind w.front w.rest a w.wrong)
@@ -225,60 +225,60 @@ mark_agrees at None m h = h
 mark_agrees at (Some which) m h = (Some at, refl)
 
 step_agrees : (at : ℕ) (b : Bool) (ts : List Token) (step : Step)
-    → ((n : ℕ) (s : List Part) (vs : List Value) → (x : Option ℕ) × Agrees (passes ts n s vs) x)
+    → ((n : ℕ) (s : List Part) (vs : List ParsedValue) → (x : Option ℕ) × Agrees (passes ts n s vs) x)
     → (x : Option ℕ) × Agrees (passing at b (passes ts) step) x
 step_agrees at b ts Wrong below = (None, tt)
 step_agrees at b ts (Next mark n s vs) below = mark_agrees at (passed mark b) (passes ts n s vs) (below n s vs)
 
 -- the reader finds limits, and no other errors
-agrees : (ts : List Token) (n : ℕ) (s : List Part) (vs : List Value)
+agrees : (ts : List Token) (n : ℕ) (s : List Part) (vs : List ParsedValue)
     → (x : Option ℕ) × Agrees (passes ts n s vs) x
 unfolding passes
 agrees [] n s vs = (None, tt)
 agrees (t ∷ ts) n s vs = step_agrees t.at (bracket ts) ts (walk s n vs t) (λ n s vs. agrees ts n s vs)
 
-pub begun_limit : (tokens : List Token) (b : Begins tokens) (at : ℕ) → counts.first_limit tokens b.front ≡ Some at
+pub begun_limit : (tokens : List Token) (b : Begins tokens) (at : ℕ) → counts.count_first_limit tokens b.front ≡ Some at
     → (which : LimitKind) × (first_limit tokens ≡ Some (Limit which at))
 begun_limit tokens b at h =
     let a = after_viable b.front b.viable in
     let x = agrees b.rest a.nodes a.stack a.values in
     let Q : List Token → Type 0 = λ l. Agrees (passes l 0 start none_yet) (option_or (counted b.front) x.0) in
     agreed (first_limit tokens) at (by_first (too_many tokens) (passes tokens 0 start none_yet)
-    (counts.too_many tokens) (counted b.front) x.0 at (many_agree tokens)
+    (counts.count_too_many tokens) (counted b.front) x.0 at (many_agree tokens)
     (subst Q (sym b.all) (a.same b.rest x.0 x.1)) h)
 
 -- some first tokens with which those of a value may begin, and one of them passes this limit
-record Found (ts : List Token) (n : ℕ) (s : List Part) (vs : List Value) (e : ParseError) : Type 0 where
+record Found (ts : List Token) (n : ℕ) (s : List Part) (vs : List ParsedValue) (e : ParseError) : Type 0 where
   front : List Token
   rest : List Token
   all : ts ≡ front ++ rest
-  alive : (more : List Token) × (q : Value) × Gen s vs (front ++ more) q
-  full : Agrees (Some e) (counts.passes front n (outline s))
+  alive : (more : List Token) × (q : ParsedValue) × Gen s vs (front ++ more) q
+  full : Agrees (Some e) (counts.count_passes front n (outline s))
 
-at_once : (at : ℕ) (b : Bool) (mark : Mark) (n : ℕ) (s : List Part) (vs : List Value) (to : counts.Step)
-    (next : ℕ → List counts.Part → Option ℕ) (which : LimitKind) → Follows (Next mark n s vs) to
-    → passed mark b ≡ Some which → counts.passing at next to ≡ Some at
+at_once : (at : ℕ) (b : Bool) (mark : Mark) (n : ℕ) (s : List Part) (vs : List ParsedValue) (to : counts.CountStep)
+    (next : ℕ → List counts.CountPart → Option ℕ) (which : LimitKind) → Follows (Next mark n s vs) to
+    → passed mark b ≡ Some which → counts.count_passing at next to ≡ Some at
 at_once at b mark n s vs (counts.To false m u) next which h e =
     let one = ap is_some e in
     let none = h.0 b in
     cc
 at_once at b mark n s vs (counts.To true m u) next which h e = refl
 
-further : (at : ℕ) (b : Bool) (mark : Mark) (n : ℕ) (s : List Part) (vs : List Value) (to : counts.Step)
-    (next : ℕ → List counts.Part → Option ℕ) (e : ParseError) → Follows (Next mark n s vs) to
-    → passed mark b ≡ None → Agrees (Some e) (next n (outline s)) → Agrees (Some e) (counts.passing at next to)
+further : (at : ℕ) (b : Bool) (mark : Mark) (n : ℕ) (s : List Part) (vs : List ParsedValue) (to : counts.CountStep)
+    (next : ℕ → List counts.CountPart → Option ℕ) (e : ParseError) → Follows (Next mark n s vs) to
+    → passed mark b ≡ None → Agrees (Some e) (next n (outline s)) → Agrees (Some e) (counts.count_passing at next to)
 further at b mark n s vs (counts.To false m u) next e h none g =
     let P : ℕ → Type 0 = λ k. Agrees (Some e) (next k u) in
-    let Q : List counts.Part → Type 0 = λ v. Agrees (Some e) (next n v) in
+    let Q : List counts.CountPart → Type 0 = λ v. Agrees (Some e) (next n v) in
     subst P h.1 (subst Q h.2 g)
 further at b mark n s vs (counts.To true m u) next e h none g =
     let no = ap is_some none in
     let one = h.0 b in
     absurd (cc)
 
-found_mark : (t : Token) (ts : List Token) (n : ℕ) (s : List Part) (vs : List Value) (e : ParseError) (mark : Mark)
-    (n' : ℕ) (s' : List Part) (vs' : List Value) (which : Option LimitKind) → walk s n vs t ≡ Next mark n' s' vs'
-    → Follows (Next mark n' s' vs') (counts.walk (outline s) n t.kind) → passed mark (bracket ts) ≡ which
+found_mark : (t : Token) (ts : List Token) (n : ℕ) (s : List Part) (vs : List ParsedValue) (e : ParseError) (mark : Mark)
+    (n' : ℕ) (s' : List Part) (vs' : List ParsedValue) (which : Option LimitKind) → walk s n vs t ≡ Next mark n' s' vs'
+    → Follows (Next mark n' s' vs') (counts.count_walk (outline s) n t.kind) → passed mark (bracket ts) ≡ which
     → (passes ts n' s' vs' ≡ Some e → Found ts n' s' vs' e)
     → passing_by t.at which (passes ts n' s' vs') ≡ Some e → Found (t ∷ ts) n s vs e
 unfolding counted_passes
@@ -292,8 +292,8 @@ found_mark t ts n s vs e mark n' s' vs' (Some which) w follows m below h =
       rest = ts;
       all = refl;
       alive = (a.0, a.1, walk_sound s n vs t a.0 a.1 (subst P (sym w) a.2));
-      full = subst R (sym (at_once t.at (bracket ts) mark n' s' vs' (counts.walk (outline s) n t.kind)
-          (counts.passes []) which follows m)) (subst Q h refl);
+      full = subst R (sym (at_once t.at (bracket ts) mark n' s' vs' (counts.count_walk (outline s) n t.kind)
+          (counts.count_passes []) which follows m)) (subst Q h refl);
     }
 found_mark t ts n s vs e mark n' s' vs' None w follows m below h =
     let r = below h in
@@ -304,22 +304,22 @@ found_mark t ts n s vs e mark n' s' vs' None w follows m below h =
       rest = r.rest;
       all = ap (λ l. t ∷ l) r.all;
       alive = (a.0, a.1, walk_sound s n vs t (r.front ++ a.0) a.1 (subst P (sym w) a.2));
-      full = further t.at (bracket ts) mark n' s' vs' (counts.walk (outline s) n t.kind) (counts.passes r.front) e
+      full = further t.at (bracket ts) mark n' s' vs' (counts.count_walk (outline s) n t.kind) (counts.count_passes r.front) e
           follows m r.full;
     }
 
-found_step : (t : Token) (ts : List Token) (n : ℕ) (s : List Part) (vs : List Value) (e : ParseError) (step : Step)
+found_step : (t : Token) (ts : List Token) (n : ℕ) (s : List Part) (vs : List ParsedValue) (e : ParseError) (step : Step)
     → walk s n vs t ≡ step → Fits n s
-    → ((m : ℕ) (u : List Part) (ws : List Value) → Fits m u → passes ts m u ws ≡ Some e → Found ts m u ws e)
+    → ((m : ℕ) (u : List Part) (ws : List ParsedValue) → Fits m u → passes ts m u ws ≡ Some e → Found ts m u ws e)
     → passing t.at (bracket ts) (passes ts) step ≡ Some e → Found (t ∷ ts) n s vs e
 found_step t ts n s vs e Wrong w h below g = cc
 found_step t ts n s vs e (Next mark n' s' vs') w h below g =
-    let P : Step → Type 0 = λ x. Follows x (counts.walk (outline s) n t.kind) in
+    let P : Step → Type 0 = λ x. Follows x (counts.count_walk (outline s) n t.kind) in
     let follows = subst P w (walk_follows s n vs t h) in
     found_mark t ts n s vs e mark n' s' vs' (passed mark (bracket ts)) w follows refl
-    (below n' s' vs' (fits_of mark n' s' vs' (counts.walk (outline s) n t.kind) follows)) g
+    (below n' s' vs' (fits_of mark n' s' vs' (counts.count_walk (outline s) n t.kind) follows)) g
 
-found : (ts : List Token) (n : ℕ) (s : List Part) (vs : List Value) (e : ParseError) → Fits n s
+found : (ts : List Token) (n : ℕ) (s : List Part) (vs : List ParsedValue) (e : ParseError) → Fits n s
     → passes ts n s vs ≡ Some e → Found ts n s vs e
 unfolding passes
 found [] n s vs e h g = cc
@@ -350,9 +350,9 @@ by_many tokens (Some l) c which at g h =
     (nothing_read tokens, ap (λ o. option_or o (counted [])) some)
 
 pub limit_begun : (tokens : List Token) (which : LimitKind) (at : ℕ) → first_limit tokens ≡ Some (Limit which at)
-    → (b : Begins tokens) × (counts.first_limit tokens b.front ≡ Some at)
+    → (b : Begins tokens) × (counts.count_first_limit tokens b.front ≡ Some at)
 limit_begun tokens which at h =
-    by_many tokens (too_many tokens) (counts.too_many tokens) which at (many_agree tokens) h
+    by_many tokens (too_many tokens) (counts.count_too_many tokens) which at (many_agree tokens) h
 
 pub none_by : (m : Option ParseError) (c : Option ℕ) → Agrees m c → c ≡ None → m ≡ None
 none_by None c h e = refl

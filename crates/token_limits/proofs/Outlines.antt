@@ -15,18 +15,18 @@ use Rattle.roopl_parser.specs.roopl_lexer.declared.token.Keyword.TheVariants as 
 use Rattle.roopl_parser.specs.roopl_lexer.declared.token.Symbol.TheVariants as sign
 use Rattle.roopl_parser.specs.Operators.{operator_at, update_operator}
 use Rattle.token_limits.specs.Limits as counts
-use Rattle.roopl_parser.specs.Reader.{Value, Part, Step, Within, Past, Element, Wrong, Next, Many, AParent, Vars}
+use Rattle.roopl_parser.specs.Reader.{ParsedValue, Part, Step, Within, Past, Element, Wrong, Next, Many, AParent, Vars}
 use Rattle.roopl_parser.specs.Reader.{AWord, ASign, AName, Level, More, Index, Spot, Kind, Brackets, Made, Sized}
 use Rattle.roopl_parser.specs.Reader.{Single, Block, Stmts, Assign, Branches, Scope, Receiver, Args, MoreArgs, Params}
 use Rattle.roopl_parser.specs.Reader.{Param, MoreParams, Count, Build, Parent, Fields, Procedures, Program, MakeWhole}
-use Rattle.roopl_parser.specs.Reader.{MakeObject, MakeBlock, passed, at_most, node_mark, name_mark}
-use Rattle.roopl_parser.specs.Reader.{param_mark, operand, more, mores, index, name, a_type, brackets, made, sized}
+use Rattle.roopl_parser.specs.Reader.{MakeObject, MakeBlock, passed, mark_at_most, node_mark, name_mark}
+use Rattle.roopl_parser.specs.Reader.{param_mark, operand, more, mores, index, name, a_type, brackets, made_read, sized}
 use Rattle.roopl_parser.specs.Reader.{statement, more_statements, scope_end, assigned, swapped, receiver}
 use Rattle.roopl_parser.specs.Reader.{branch_parts, args, more_args, field_parts, params, more_params, parent}
 use Rattle.roopl_parser.specs.Reader.{procedures, program, is_word, is_sign, build, walk}
 
 -- what is left of a stack for the counts
-abbrev pub outline : List Part → List counts.Part
+abbrev pub outline : List Part → List counts.CountPart
 outline [] = []
 outline (AWord w ∷ s) = counts.Any ∷ outline s
 outline (ASign sign.LeftBracket ∷ s) = counts.Index 0 ∷ drop 2 (outline s)
@@ -60,8 +60,8 @@ outline (Procedures ∷ s) = outline s
 outline (Program c ∷ s) = counts.Program c ∷ outline s
 
 -- classes are still to come, and nothing before them
-abbrev pub AwaitsClasses : List counts.Part → Type 0
-AwaitsClasses u = (c : ℕ) × (v : List counts.Part) × (u ≡ counts.Program c ∷ v)
+abbrev pub AwaitsClasses : List counts.CountPart → Type 0
+AwaitsClasses u = (c : ℕ) × (v : List counts.CountPart) × (u ≡ counts.Program c ∷ v)
 
 -- a stack after n nodes: indexes are no deeper than there are nodes, and what belongs together is
 -- there
@@ -101,7 +101,7 @@ later n m (Program c ∷ s) less h = h
 later n m (part ∷ s) less h = later n m s less h
 
 -- a step of the reader that is not wrong is one of the counts
-abbrev pub Follows : Step → counts.Step → Type 0
+abbrev pub Follows : Step → counts.CountStep → Type 0
 Follows Wrong to = ⊤
 Follows (Next mark n s vs) (counts.To which m u) =
     ((b : Bool) → is_some (passed mark b) ≡ which) × (n ≡ m) × (outline s ≡ u) × Fits n s
@@ -113,7 +113,7 @@ by_test true which b = refl
 by_test false which b = refl
 
 mark_is : (most count : ℕ) (which : LimitKind) (b : Bool)
-    → is_some (passed (at_most most count which Within) b) ≡ counts.is_full most count
+    → is_some (passed (mark_at_most most count which Within) b) ≡ counts.is_full most count
 mark_is most count which b = by_test (nat_lt count most) which b
 
 both_tests : (t u : Bool) (first second : LimitKind) (b : Bool)
@@ -136,11 +136,11 @@ name_is n i b h = by_name (nat_lt n MOST_NODES) n i b refl h
 
 -- ---- steps
 
-goes_on : (n : ℕ) (s : List Part) (vs : List Value) → Fits n s
+goes_on : (n : ℕ) (s : List Part) (vs : List ParsedValue) → Fits n s
     → Follows (Next Within n s vs) (counts.To false n (outline s))
 goes_on n s vs h = (λ b. refl, refl, refl, h)
 
-mores_outline : (k p i : ℕ) (s : List Part) → outline (mores k p i s) ≡ counts.mores k p (outline s)
+mores_outline : (k p i : ℕ) (s : List Part) → outline (mores k p i s) ≡ counts.count_mores k p (outline s)
 mores_outline zero p i s = refl
 mores_outline (suc k) p i s = mores_outline k p i (More (suc k) p i ∷ s)
 
@@ -148,8 +148,8 @@ mores_fit : (k p i n : ℕ) (s : List Part) → i ≤ n + 1 → Fits n s → Fit
 mores_fit zero p i n s a h = h
 mores_fit (suc k) p i n s a h = mores_fit k p i n (More (suc k) p i ∷ s) a (a, h)
 
-node : (k p i n : ℕ) (s : List Part) (vs : List Value) → i ≤ n + 1 → Fits n s
-    → Follows (Next (node_mark n) (suc n) (mores k p i s) vs) (counts.node n (counts.mores k p (outline s)))
+node : (k p i n : ℕ) (s : List Part) (vs : List ParsedValue) → i ≤ n + 1 → Fits n s
+    → Follows (Next (node_mark n) (suc n) (mores k p i s) vs) (counts.node n (counts.count_mores k p (outline s)))
 node k p i n s vs a h = (
   λ b. mark_is MOST_NODES n limit.Nodes b,
   refl,
@@ -157,8 +157,8 @@ node k p i n s vs a h = (
   mores_fit k p i (suc n) s (omega (arith, a)) (later n (suc n) s (omega arith) h),
 )
 
-operand_follows : (k p i : ℕ) (s : List Part) (n : ℕ) (vs : List Value) (at : ℕ) (kind : TokenKind) → i ≤ n + 1
-    → Fits n s → Follows (operand k p i s n vs at kind) (counts.operand k p (outline s) n kind)
+operand_follows : (k p i : ℕ) (s : List Part) (n : ℕ) (vs : List ParsedValue) (at : ℕ) (kind : TokenKind) → i ≤ n + 1
+    → Fits n s → Follows (operand k p i s n vs at kind) (counts.count_operand k p (outline s) n kind)
 operand_follows k p i s n vs at (token.Number w) a h = node k p i n s vs a h
 operand_follows k p i s n vs at (token.Word word.Nil) a h = node k p i n s vs a h
 operand_follows k p i s n vs at (token.Name x) a h = (
@@ -175,9 +175,9 @@ operand_follows k p i s n vs at (token.Sign sign.LeftParen) a h = (
 )
 operand_follows k p i s n vs at kind a h = tt
 
-more_follows : (k p i : ℕ) (s : List Part) (n : ℕ) (vs : List Value) (at : ℕ) (other : Step) (to : counts.Step)
+more_follows : (k p i : ℕ) (s : List Part) (n : ℕ) (vs : List ParsedValue) (at : ℕ) (other : Step) (to : counts.CountStep)
     (o : Option BinOp) → i ≤ n + 1 → Fits n s → Follows other to
-    → Follows (more k p i s n vs at other o) (counts.more k p (outline s) n to o)
+    → Follows (more k p i s n vs at other o) (counts.count_more k p (outline s) n to o)
 more_follows k p i s n vs at other to None a h below = below
 more_follows k p i s n vs at other to (Some op) a h below = (
   λ b. mark_is MOST_NODES n limit.Nodes b,
@@ -186,48 +186,48 @@ more_follows k p i s n vs at other to (Some op) a h below = (
   (omega (arith, a), (omega (arith, a), later n (suc n) s (omega arith) h)),
 )
 
-index_follows : (p i : ℕ) (s : List Part) (n : ℕ) (vs : List Value) (other : Step) (to : counts.Step) (kind : TokenKind)
+index_follows : (p i : ℕ) (s : List Part) (n : ℕ) (vs : List ParsedValue) (other : Step) (to : counts.CountStep) (kind : TokenKind)
     → i ≤ n → Fits n s → Follows other to
-    → Follows (index p i s n vs other kind) (counts.index p (outline s) n to kind)
+    → Follows (index p i s n vs other kind) (counts.count_index p (outline s) n to kind)
 index_follows p i s n vs other to (token.Sign sign.LeftBracket) a h below =
     (λ b. refl, refl, refl, (omega (arith, a), h))
 index_follows p i s n vs other to kind a h below = below
 
-name_follows : (s : List Part) (n : ℕ) (vs : List Value) (at : ℕ) (kind : TokenKind) → Fits n s
+name_follows : (s : List Part) (n : ℕ) (vs : List ParsedValue) (at : ℕ) (kind : TokenKind) → Fits n s
     → Follows (name s n vs at kind) (counts.To false n (outline s))
 name_follows s n vs at (token.Name x) h = (λ b. refl, refl, refl, h)
 name_follows s n vs at kind h = tt
 
-type_follows : (s : List Part) (n : ℕ) (vs : List Value) (at : ℕ) (kind : TokenKind) → Fits n s
+type_follows : (s : List Part) (n : ℕ) (vs : List ParsedValue) (at : ℕ) (kind : TokenKind) → Fits n s
     → Follows (a_type s n vs at Within Wrong kind) (counts.To false n (counts.Brackets ∷ outline s))
 type_follows s n vs at (token.Name x) h = (λ b. refl, refl, refl, h)
 type_follows s n vs at (token.Word word.Int) h = (λ b. refl, refl, refl, h)
 type_follows s n vs at kind h = tt
 
-brackets_follows : (s : List Part) (n : ℕ) (vs : List Value) (other : Step) (to : counts.Step) (kind : TokenKind)
-    → Fits n s → Follows other to → Follows (brackets s n vs other kind) (counts.brackets (outline s) n to kind)
+brackets_follows : (s : List Part) (n : ℕ) (vs : List ParsedValue) (other : Step) (to : counts.CountStep) (kind : TokenKind)
+    → Fits n s → Follows other to → Follows (brackets s n vs other kind) (counts.count_brackets (outline s) n to kind)
 brackets_follows s n vs other to (token.Sign sign.LeftBracket) h below = (λ b. refl, refl, refl, h)
 brackets_follows s n vs other to kind h below = below
 
-made_follows : (s : List Part) (n : ℕ) (vs : List Value) (at : ℕ) (kind : TokenKind) → Fits n s
-    → Follows (made s n vs at kind) (counts.To false n (counts.Index 0 ∷ outline s))
+made_follows : (s : List Part) (n : ℕ) (vs : List ParsedValue) (at : ℕ) (kind : TokenKind) → Fits n s
+    → Follows (made_read s n vs at kind) (counts.To false n (counts.Index 0 ∷ outline s))
 made_follows s n vs at (token.Name x) h = (λ b. refl, refl, refl, h)
 made_follows s n vs at (token.Word word.Int) h = (λ b. refl, refl, refl, (refl, (omega arith, h)))
 made_follows s n vs at kind h = tt
 
-sized_follows : (s : List Part) (n : ℕ) (vs : List Value) (other : Step) (to : counts.Step) (kind : TokenKind)
-    → Fits n s → Follows other to → Follows (sized s n vs other kind) (counts.index 0 (outline s) n to kind)
+sized_follows : (s : List Part) (n : ℕ) (vs : List ParsedValue) (other : Step) (to : counts.CountStep) (kind : TokenKind)
+    → Fits n s → Follows other to → Follows (sized s n vs other kind) (counts.count_index 0 (outline s) n to kind)
 sized_follows s n vs other to (token.Sign sign.LeftBracket) h below = (λ b. refl, refl, refl, (omega arith, h))
 sized_follows s n vs other to kind h below = below
 
-bracket_follows : (s : List Part) (n : ℕ) (vs : List Value) (to : counts.Step) (kind : TokenKind)
+bracket_follows : (s : List Part) (n : ℕ) (vs : List ParsedValue) (to : counts.CountStep) (kind : TokenKind)
     → outline s ≡ counts.Level 9 0 ∷ counts.Any ∷ drop 2 (outline s) → Fits n s
     → Follows (cond (is_sign sign.LeftBracket kind) (Next Within n s vs) Wrong)
-    (counts.index 0 (drop 2 (outline s)) n to kind)
+    (counts.count_index 0 (drop 2 (outline s)) n to kind)
 bracket_follows s n vs to (token.Sign sign.LeftBracket) e h = (λ b. refl, refl, e, h)
 bracket_follows s n vs to kind e h = tt
 
-token_follows : (is : Bool) (s : List Part) (n : ℕ) (vs : List Value) → Fits n s
+token_follows : (is : Bool) (s : List Part) (n : ℕ) (vs : List ParsedValue) → Fits n s
     → Follows (cond is (Next Within n s vs) Wrong) (counts.To false n (outline s))
 token_follows true s n vs h = goes_on n s vs h
 token_follows false s n vs h = tt
@@ -235,10 +235,10 @@ token_follows false s n vs h = tt
 -- ---- statements
 
 -- the first token of a statement in a block, before the other statements of it
-statement_follows : (d l : ℕ) (s : List Part) (vs : List Value) (at : ℕ) (other : Step) (to : counts.Step)
+statement_follows : (d l : ℕ) (s : List Part) (vs : List ParsedValue) (at : ℕ) (other : Step) (to : counts.CountStep)
     (kind : TokenKind) → Fits 0 s → Follows other to
     → Follows (statement d l (more_statements d l s) vs at other kind)
-    (counts.statement d l (counts.Block d l ∷ outline s) to kind)
+    (counts.count_statement d l (counts.Block d l ∷ outline s) to kind)
 statement_follows d l s vs at other to (token.Name x) h below =
     (λ b. mark_is MOST_NESTING d limit.Nesting b, refl, refl, (omega arith, h))
 statement_follows d l s vs at other to (token.Word word.If) h below =
@@ -273,78 +273,78 @@ statement_follows d l s vs at other to (token.Word word.Skip) h below =
     (λ b. mark_is MOST_NESTING d limit.Nesting b, refl, refl, h)
 statement_follows d l s vs at other to kind h below = below
 
-assigned_follows : (at : ℕ) (s : List Part) (n : ℕ) (vs : List Value) (kind : TokenKind) → Fits n s
-    → Follows (assigned at s n vs (update_operator kind) (swapped at s n vs kind)) (counts.assigned (outline s) n kind)
+assigned_follows : (at : ℕ) (s : List Part) (n : ℕ) (vs : List ParsedValue) (kind : TokenKind) → Fits n s
+    → Follows (assigned at s n vs (update_operator kind) (swapped at s n vs kind)) (counts.count_assigned (outline s) n kind)
 assigned_follows at s n vs (token.Sign sign.AddTo) h = (λ b. refl, refl, refl, (omega arith, h))
 assigned_follows at s n vs (token.Sign sign.SubFrom) h = (λ b. refl, refl, refl, (omega arith, h))
 assigned_follows at s n vs (token.Sign sign.XorInto) h = (λ b. refl, refl, refl, (omega arith, h))
 assigned_follows at s n vs (token.Sign sign.Swap) h = (λ b. refl, refl, refl, h)
 assigned_follows at s n vs kind h = tt
 
-receiver_follows : (at : ℕ) (back : Bool) (l : ℕ) (s : List Part) (n : ℕ) (vs : List Value) (kind : TokenKind)
-    → Fits n s → Follows (receiver at back l s n vs kind) (counts.receiver l (outline s) n kind)
+receiver_follows : (at : ℕ) (back : Bool) (l : ℕ) (s : List Part) (n : ℕ) (vs : List ParsedValue) (kind : TokenKind)
+    → Fits n s → Follows (receiver at back l s n vs kind) (counts.count_receiver l (outline s) n kind)
 receiver_follows at back l s n vs (token.Sign sign.LeftParen) h = (λ b. refl, refl, refl, h)
 receiver_follows at back l s n vs (token.Sign sign.DoubleColon) h = (λ b. refl, refl, refl, h)
 receiver_follows at back l s n vs (token.Sign sign.LeftBracket) h =
     (λ b. mark_is MOST_LOCALS l limit.Locals b, refl, refl, (omega arith, h))
 receiver_follows at back l s n vs kind h = tt
 
-args_follows : (s : List Part) (n : ℕ) (vs : List Value) (at : ℕ) (kind : TokenKind) → Fits n s
-    → Follows (args s n vs at kind) (counts.args (outline s) n kind)
+args_follows : (s : List Part) (n : ℕ) (vs : List ParsedValue) (at : ℕ) (kind : TokenKind) → Fits n s
+    → Follows (args s n vs at kind) (counts.count_args (outline s) n kind)
 args_follows s n vs at (token.Sign sign.RightParen) h = (λ b. refl, refl, refl, h)
 args_follows s n vs at (token.Name x) h = (λ b. refl, refl, refl, h)
 args_follows s n vs at kind h = tt
 
-more_args_follows : (s : List Part) (n : ℕ) (vs : List Value) (kind : TokenKind) → Fits n s
-    → Follows (more_args s n vs kind) (counts.args (outline s) n kind)
+more_args_follows : (s : List Part) (n : ℕ) (vs : List ParsedValue) (kind : TokenKind) → Fits n s
+    → Follows (more_args s n vs kind) (counts.count_args (outline s) n kind)
 more_args_follows s n vs (token.Sign sign.RightParen) h = (λ b. refl, refl, refl, h)
 more_args_follows s n vs (token.Sign sign.Comma) h = (λ b. refl, refl, refl, h)
 more_args_follows s n vs kind h = tt
 
 -- ---- methods and classes
 
-params_follows : (s : List Part) (n : ℕ) (vs : List Value) (at : ℕ) (kind : TokenKind) → Fits n s
+params_follows : (s : List Part) (n : ℕ) (vs : List ParsedValue) (at : ℕ) (kind : TokenKind) → Fits n s
     → Follows (params s n vs (a_type (field_parts (MoreParams 1 ∷ s)) n (Vars [] ∷ vs) at (param_mark 0) Wrong kind)
-    kind) (counts.params 0 (outline s) n kind)
+    kind) (counts.count_params 0 (outline s) n kind)
 params_follows s n vs at (token.Sign sign.RightParen) h = (λ b. refl, refl, refl, h)
 params_follows s n vs at (token.Name x) h = (λ b. mark_is MOST_PARAMETERS 0 limit.Parameters b, refl, refl, h)
 params_follows s n vs at (token.Word word.Int) h = (λ b. mark_is MOST_PARAMETERS 0 limit.Parameters b, refl, refl, h)
 params_follows s n vs at kind h = tt
 
-param_follows : (c : ℕ) (s : List Part) (n : ℕ) (vs : List Value) (at : ℕ) (kind : TokenKind)
+param_follows : (c : ℕ) (s : List Part) (n : ℕ) (vs : List ParsedValue) (at : ℕ) (kind : TokenKind)
     → outline s ≡ counts.Params (suc c) ∷ drop 1 (outline s) → Fits n s
     → Follows (a_type (field_parts s) n vs at (param_mark c) Wrong kind)
-    (counts.params c (drop 1 (outline s)) n kind)
+    (counts.count_params c (drop 1 (outline s)) n kind)
 param_follows c s n vs at (token.Name x) e h =
     (λ b. mark_is MOST_PARAMETERS c limit.Parameters b, refl, ap (λ u. counts.Brackets ∷ counts.Any ∷ u) e, h)
 param_follows c s n vs at (token.Word word.Int) e h =
     (λ b. mark_is MOST_PARAMETERS c limit.Parameters b, refl, ap (λ u. counts.Brackets ∷ counts.Any ∷ u) e, h)
 param_follows c s n vs at kind e h = tt
 
-more_params_follows : (c : ℕ) (s : List Part) (n : ℕ) (vs : List Value) (kind : TokenKind) → Fits n s
-    → Follows (more_params c s n vs kind) (counts.params c (outline s) n kind)
+more_params_follows : (c : ℕ) (s : List Part) (n : ℕ) (vs : List ParsedValue) (kind : TokenKind) → Fits n s
+    → Follows (more_params c s n vs kind) (counts.count_params c (outline s) n kind)
 more_params_follows c s n vs (token.Sign sign.RightParen) h = (λ b. refl, refl, refl, h)
 more_params_follows c s n vs (token.Sign sign.Comma) h = (λ b. refl, refl, refl, (refl, h))
 more_params_follows c s n vs kind h = tt
 
 -- a step before the classes that are still to come
-before_classes : (step : Step) (u : List counts.Part) (n : ℕ) (kind : TokenKind) (awaits : AwaitsClasses u)
-    → Follows step (counts.program awaits.0 awaits.1 n kind) → Follows step (counts.walk u n kind)
+before_classes : (step : Step) (u : List counts.CountPart) (n : ℕ) (kind : TokenKind) (awaits : AwaitsClasses u)
+    → Follows step (counts.count_program awaits.0 awaits.1 n kind) → Follows step (counts.count_walk u n kind)
 before_classes step u n kind awaits h =
-    let P : List counts.Part → Type 0 = λ v. Follows step (counts.walk v n kind) in
+    let P : List counts.CountPart → Type 0 = λ v. Follows step (counts.count_walk v n kind) in
     subst P (sym awaits.2) h
 
-parent_follows : (s : List Part) (n : ℕ) (vs : List Value) (other : Step) (kind : TokenKind)
-    → AwaitsClasses (outline s) → Fits n s → Follows other (counts.walk (outline s) n kind)
-    → Follows (parent s n vs other kind) (counts.walk (outline s) n kind)
+parent_follows : (s : List Part) (n : ℕ) (vs : List ParsedValue) (other : Step) (kind : TokenKind)
+    → AwaitsClasses (outline s) → Fits n s → Follows other (counts.count_walk (outline s) n kind)
+    → Follows (parent s n vs other kind) (counts.count_walk (outline s) n kind)
 parent_follows s n vs other (token.Word word.Inherits) awaits h below =
     before_classes (parent s n vs other (token.Word word.Inherits)) (outline s) n (token.Word word.Inherits) awaits
     (λ b. refl, refl, ap (λ u. counts.Any ∷ u) awaits.2, h)
 parent_follows s n vs other kind awaits h below = below
 
-fields_follow : (s : List Part) (n : ℕ) (vs : List Value) (at : ℕ) (other : Step) (kind : TokenKind)
-    → AwaitsClasses (outline s) → Fits n s → Follows other (counts.walk (outline s) n kind)
-    → Follows (a_type (field_parts (Fields ∷ s)) n vs at Within other kind) (counts.walk (outline s) n kind)
+fields_follow : (s : List Part) (n : ℕ) (vs : List ParsedValue) (at : ℕ) (other : Step) (kind : TokenKind)
+    → AwaitsClasses (outline s) → Fits n s → Follows other (counts.count_walk (outline s) n kind)
+    → Follows (a_type (field_parts (Fields ∷ s)) n vs at Within other kind) (counts.count_walk (outline s) n kind)
 fields_follow s n vs at other (token.Name x) awaits h below =
     before_classes (a_type (field_parts (Fields ∷ s)) n vs at Within other (token.Name x)) (outline s) n
     (token.Name x) awaits
@@ -355,9 +355,9 @@ fields_follow s n vs at other (token.Word word.Int) awaits h below =
     (λ b. refl, refl, ap (λ u. counts.Brackets ∷ counts.Any ∷ u) awaits.2, (awaits, h))
 fields_follow s n vs at other kind awaits h below = below
 
-procedures_follow : (s : List Part) (n : ℕ) (vs : List Value) (other : Step) (kind : TokenKind)
-    → AwaitsClasses (outline s) → Fits 0 s → Fits n s → Follows other (counts.walk (outline s) n kind)
-    → Follows (procedures s n vs other kind) (counts.walk (outline s) n kind)
+procedures_follow : (s : List Part) (n : ℕ) (vs : List ParsedValue) (other : Step) (kind : TokenKind)
+    → AwaitsClasses (outline s) → Fits 0 s → Fits n s → Follows other (counts.count_walk (outline s) n kind)
+    → Follows (procedures s n vs other kind) (counts.count_walk (outline s) n kind)
 procedures_follow s n vs other (token.Word word.Method) awaits first h below =
     before_classes (procedures s n vs other (token.Word word.Method)) (outline s) n (token.Word word.Method) awaits (
       λ b. refl,
@@ -367,42 +367,42 @@ procedures_follow s n vs other (token.Word word.Method) awaits first h below =
     )
 procedures_follow s n vs other kind awaits first h below = below
 
-program_follows : (c n : ℕ) (vs : List Value) (kind : TokenKind)
-    → Follows (program c [] n vs Wrong kind) (counts.program c [] n kind)
+program_follows : (c n : ℕ) (vs : List ParsedValue) (kind : TokenKind)
+    → Follows (program c [] n vs Wrong kind) (counts.count_program c [] n kind)
 program_follows c n vs (token.Word word.Class) =
     let awaits : AwaitsClasses (counts.Program (suc c) ∷ []) = (suc c, [], refl) in
     (λ b. mark_is MOST_CLASSES c limit.Classes b, refl, refl, (awaits, (awaits, (awaits, refl))))
 program_follows c n vs kind = tt
 
-pub walk_follows : (s : List Part) (n : ℕ) (vs : List Value) (t : Token) → Fits n s
-    → Follows (walk s n vs t) (counts.walk (outline s) n t.kind)
+pub walk_follows : (s : List Part) (n : ℕ) (vs : List ParsedValue) (t : Token) → Fits n s
+    → Follows (walk s n vs t) (counts.count_walk (outline s) n t.kind)
 unfolding walk
 walk_follows [] n vs t h = tt
 walk_follows (AWord w ∷ s) n vs t h = token_follows (is_word w t.kind) s n vs h
 walk_follows (ASign sign.LeftBracket ∷ s) n vs t h =
-    bracket_follows s n vs (counts.walk (drop 2 (outline s)) n t.kind) t.kind h.0 h.1
+    bracket_follows s n vs (counts.count_walk (drop 2 (outline s)) n t.kind) t.kind h.0 h.1
 walk_follows (ASign w ∷ s) n vs t h = token_follows (is_sign w t.kind) s n vs h
 walk_follows (AName ∷ s) n vs t h = name_follows s n vs t.at t.kind h
 walk_follows (Level k p i ∷ s) n vs t h = operand_follows k p i s n vs t.at t.kind h.0 h.1
 walk_follows (More k p i ∷ s) n vs t h =
-    more_follows k p i s n vs t.at (walk s n vs t) (counts.walk (outline s) n t.kind) (operator_at k t.kind) h.0 h.1
+    more_follows k p i s n vs t.at (walk s n vs t) (counts.count_walk (outline s) n t.kind) (operator_at k t.kind) h.0 h.1
     (walk_follows s n vs t h.1)
 walk_follows (Index p i ∷ s) n vs t h =
-    index_follows p i s n vs (walk s n (build MakeWhole vs) t) (counts.walk (outline s) n t.kind) t.kind h.0 h.1
+    index_follows p i s n vs (walk s n (build MakeWhole vs) t) (counts.count_walk (outline s) n t.kind) t.kind h.0 h.1
     (walk_follows s n (build MakeWhole vs) t h.1)
 walk_follows (Spot ∷ s) n vs t h = name_follows (Index 0 0 ∷ s) n vs t.at t.kind (omega arith, h)
 walk_follows (Kind ∷ s) n vs t h = type_follows s n vs t.at t.kind h
 walk_follows (Brackets ∷ s) n vs t h =
-    brackets_follows s n vs (walk s n vs t) (counts.walk (outline s) n t.kind) t.kind h (walk_follows s n vs t h)
+    brackets_follows s n vs (walk s n vs t) (counts.count_walk (outline s) n t.kind) t.kind h (walk_follows s n vs t h)
 walk_follows (Made ∷ s) n vs t h = made_follows s n vs t.at t.kind h
 walk_follows (Sized ∷ s) n vs t h =
-    sized_follows s n vs (walk s n (build MakeObject vs) t) (counts.walk (outline s) n t.kind) t.kind h
+    sized_follows s n vs (walk s n (build MakeObject vs) t) (counts.count_walk (outline s) n t.kind) t.kind h
     (walk_follows s n (build MakeObject vs) t h)
 walk_follows (Single d l ∷ s) n vs t h = absurd h
 walk_follows (Block d l ∷ s) n vs t h =
-    statement_follows d l (Build MakeBlock ∷ s) (Many [] ∷ vs) t.at Wrong (counts.walk (outline s) n t.kind) t.kind h tt
+    statement_follows d l (Build MakeBlock ∷ s) (Many [] ∷ vs) t.at Wrong (counts.count_walk (outline s) n t.kind) t.kind h tt
 walk_follows (Stmts d l ∷ s) n vs t h =
-    statement_follows d l s vs t.at (walk s n vs t) (counts.walk (outline s) n t.kind) t.kind h
+    statement_follows d l s vs t.at (walk s n vs t) (counts.count_walk (outline s) n t.kind) t.kind h
     (walk_follows s n vs t (later 0 n s (omega arith) h))
 walk_follows (Assign at ∷ s) n vs t h = assigned_follows at s n vs t.kind h
 walk_follows (Branches first second third d l ∷ s) n vs t h =

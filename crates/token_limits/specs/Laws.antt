@@ -8,7 +8,7 @@ use Rattle.roopl_parser.specs.declared.error.ParseError.TheVariants.{Limit}
 use Rattle.roopl_parser.specs.Grammar.{Derives}
 use Rattle.roopl_parser.specs.Viable.{IsWrongAt}
 use Rattle.roopl_parser.specs.Viable.{first_limit as limit_read}
-use Rattle.token_limits.specs.Limits.{Begins, first_limit}
+use Rattle.token_limits.specs.Limits.{Begins, count_first_limit}
 
 -- both say that no limit is passed, or that one is passed at this place
 abbrev pub Agrees : Option ParseError → Option ℕ → Type 0
@@ -19,15 +19,15 @@ Agrees _ _ = ⊥
 -- in the tokens of a program
 abbrev pub CountsDerived : Type 0
 CountsDerived = (tokens : List Token) (x : Source) → Derives tokens x
-    → Agrees (limit_read tokens) (first_limit tokens tokens)
+    → Agrees (limit_read tokens) (count_first_limit tokens tokens)
 
 -- before a wrong token
 abbrev pub CountsUpToWrong : Type 0
 CountsUpToWrong = (end : ℕ) (tokens : List Token) (at : ℕ) (wrong : IsWrongAt end tokens at)
-    → Agrees (limit_read tokens) (first_limit tokens wrong.front)
+    → Agrees (limit_read tokens) (count_first_limit tokens wrong.front)
 
 -- a limit that is passed, by one of some first tokens with which a program's may begin
 abbrev pub CountsPassed : Type 0
 CountsPassed = (tokens : List Token) (at : ℕ)
     → ((which : LimitKind) × (limit_read tokens ≡ Some (Limit which at)))
-    ↔ ((begun : Begins tokens) × (first_limit tokens begun.front ≡ Some at))
+    ↔ ((begun : Begins tokens) × (count_first_limit tokens begun.front ≡ Some at))

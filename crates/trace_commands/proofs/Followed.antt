@@ -8,16 +8,16 @@ use Rattle.run_settings.specs.roopl_semantics.Report.{Text}
 use Rattle.pisa_scripts.specs.declared.command.Command.{Command}
 use Rattle.source_debugger.specs.source_courses.declared.running.TheConstants.{MOST_COST}
 use Rattle.source_debugger.specs.Shown.{told}
-use Rattle.source_debugger.specs.Standing.{Standing, run_of, Leads}
-use Rattle.trace_commands.specs.TracePlans.{Follows}
+use Rattle.source_debugger.specs.Standing.{Standing, trail_of, CommandsLead}
+use Rattle.trace_commands.specs.TracePlans.{FollowsScript}
 
 pub followed : (program : Program) (limits : Limits) (input : List FieldWord) (commands : List Command)
     (before after : Standing) (text shown : Text)
     → before ≡ record { program = program; limits = limits; input = input; position = 0 }
-    → Leads before commands after text → shown ≡ text → Follows commands (source_of program) limits input shown
+    → CommandsLead before commands after text → shown ≡ text → FollowsScript commands (source_of program) limits input shown
 followed program limits input commands before after text shown first leads same = record {
   fuel = MOST_COST;
   last = after.position;
-  told = sym (ap (λ (d : Standing). told (source_of d.program) (run_of d) commands d.position) first) ∙ leads.told
+  told = sym (ap (λ (d : Standing). told (source_of d.program) (trail_of d) commands d.position) first) ∙ leads.told
       ∙ ap (λ (t : Text). Some (record { position = after.position; text = t })) (sym same);
 }

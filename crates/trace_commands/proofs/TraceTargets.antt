@@ -13,11 +13,11 @@ use Rattle.debugger_scripts.specs.Scripts.{script_of}
 use Rattle.run_settings.specs.command_plan.Plans.{Planned, WritesOnly}
 use Rattle.run_settings.proofs.command_plan_laws.Writes.{along}
 use Rattle.run_settings.proofs.RefusedRuns.{refused_writes}
-use Rattle.trace_commands.specs.TracePlans.{IsScriptPlan, IsTracePlan, Traces}
+use Rattle.trace_commands.specs.TracePlans.{IsTraceScriptPlan, IsTracePlan, Traces}
 use Rattle.command_plan.specs.declared.plan.Room.{Room}
 
 script_writes : (read : Result (List Command) ScriptError) (program : Source) (limits : Limits) (input : List FieldWord)
-    (p : Planned) → IsScriptPlan read program limits input p → WritesOnly p None
+    (p : Planned) → IsTraceScriptPlan read program limits input p → WritesOnly p None
 script_writes (Err (BadCommand line)) program limits input p h = along p _ None h (inl refl)
 script_writes (Err NoMemory) program limits input p h = absurd h
 script_writes (Ok commands) program limits input p h = along p _ None h.2 (inl refl)

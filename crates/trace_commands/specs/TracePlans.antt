@@ -22,7 +22,7 @@ use Rattle.command_plan.specs.declared.plan.Room.{Room}
 
 -- the commands print this text along the run from its start on: there is fuel with which the run is
 -- known as far as they go
-pub record Follows (commands : List Command) (program : Source) (limits : Limits)
+pub record FollowsScript (commands : List Command) (program : Source) (limits : Limits)
     (input : List FieldWord) (text : List ℕ) : Type 0 where
   pub fuel : ℕ
   pub last : ℕ
@@ -30,19 +30,19 @@ pub record Follows (commands : List Command) (program : Source) (limits : Limits
       ≡ Some (record { position = last; text = text })
 
 -- the first line that is no command is reported, or what the commands print
-abbrev pub IsScriptPlan : Result (List Command) ScriptError → Source → Limits → List FieldWord
+abbrev pub IsTraceScriptPlan : Result (List Command) ScriptError → Source → Limits → List FieldWord
     → Planned → Type 0
-IsScriptPlan (Err (BadCommand line)) program limits input p =
+IsTraceScriptPlan (Err (BadCommand line)) program limits input p =
     p ≡ prints InputRefused (bad_command_line line)
-IsScriptPlan (Err script.NoMemory) program limits input p = ⊥
-IsScriptPlan (Ok commands) program limits input p =
-    (text : List ℕ) × Follows commands program limits input text × (p ≡ prints Done text)
+IsTraceScriptPlan (Err script.NoMemory) program limits input p = ⊥
+IsTraceScriptPlan (Ok commands) program limits input p =
+    (text : List ℕ) × FollowsScript commands program limits input text × (p ≡ prints Done text)
 
 -- the first refusal of a text that is to be run is reported, or the script is tried
 abbrev pub IsTracePlan : (text script given : List ℕ) → (room : Room) → Planned → Type 0
 IsTracePlan text script given room p =
     RefusesRun text given room p
-    ⊎ RunsTo text given room (λ program limits input. IsScriptPlan (script_of script) program
+    ⊎ RunsTo text given room (λ program limits input. IsTraceScriptPlan (script_of script) program
     limits input p)
 
 -- the plan of `trace` by this script over this file, on an input if there is one

@@ -8,8 +8,8 @@ ghost use Rattle.source_debugger.specs.Standing.{IsValidRun};
 ghost use Rattle.run_settings.specs.pisa_loader.declared.input.TheConstants.{MOST_INPUT};
 ghost use Rattle.run_settings.specs.command_plan.Plans.{planned, prints, GivesPlan, IsInputText};
 ghost use Rattle.run_settings.specs.rpp_ports.Ports.{IsTextOf};
-ghost use Rattle.run_settings.specs.command_plan.Files.{OnlyReads, source, input_files, script_file};
-ghost use Rattle.trace_commands.specs.TracePlans.{Follows, IsScriptPlan, IsTracePlan, Traces};
+ghost use Rattle.run_settings.specs.command_plan.Files.{OnlyReads, source_file, input_files, script_file};
+ghost use Rattle.trace_commands.specs.TracePlans.{FollowsScript, IsTraceScriptPlan, IsTracePlan, Traces};
 
 use class_table::Checked;
 use command_plan::{
@@ -47,7 +47,7 @@ pub fn trace<S: Shelf>(
         result }
     ensures reads { OnlyReads (S.texts shelf.old) (S.texts shelf.new) (S.faults shelf.old)
         (S.faults shelf.new)
-        (source file.now ∷ script_file script.now ∷ input_files (option_map string_bytes input.now))
+        (source_file file.now ∷ script_file script.now ∷ input_files (option_map string_bytes input.now))
         result }
 {
     let read = read_all(alloc, shelf, file, script, input)?;
@@ -72,7 +72,7 @@ fn read_all<S: Shelf>(
     ensures within_input { IfOk result (λ read. length read.given.items ≤ MOST_INPUT) }
     ensures reads { OnlyReads (S.texts shelf.old) (S.texts shelf.new) (S.faults shelf.old)
         (S.faults shelf.new)
-        (source file.now ∷ script_file script.now ∷ input_files (option_map string_bytes input.now))
+        (source_file file.now ∷ script_file script.now ∷ input_files (option_map string_bytes input.now))
         result }
 {
     let text = read_file(alloc, shelf, file, MOST_BYTES as u64)?;
@@ -116,7 +116,7 @@ fn trace_script(
 ) -> Result<Plan, NoMemory>
     requires script { length script.now ≤ MOST_SCRIPT }
     requires run { IsValidRun (source_of checked) limits input.now.words.items }
-    ensures { IfOk result (λ plan. IsScriptPlan (script_of script.now) (source_of checked) limits
+    ensures { IfOk result (λ plan. IsTraceScriptPlan (script_of script.now) (source_of checked) limits
         input.now.words.items (planned plan)) }
 {
     match read_script(alloc, script) {
@@ -140,7 +140,7 @@ fn follow(
     limits: Limits,
 ) -> Result<String, NoMemory>
     requires { IsValidRun (source_of checked) limits input.now.words.items }
-    ensures { IfOk result (λ text. Follows commands.now (source_of checked) limits
+    ensures { IfOk result (λ text. FollowsScript commands.now (source_of checked) limits
         input.now.words.items (string_bytes text)) }
 {
     let mut debugger = SourceDebugger::new(alloc, &checked, input, limits)?;

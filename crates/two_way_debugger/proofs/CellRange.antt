@@ -4,7 +4,7 @@ use Rattle.std.proofs.Common.{drop-cons, append_assoc, Some, arith}
 use Rattle.std.specs.Prelude.{min, slice_get}
 use Rattle.std.proofs.lemmas.List.{length-take, get_or-take}
 use Rattle.std.proofs.lemmas.Option.{slice_get-get_or}
-use Rattle.two_way_debugger.specs.Shown.{cell_lines}
+use Rattle.two_way_debugger.specs.Shown.{memory_cell_lines}
 use Rattle.pisa_scripts.specs.Words.{cell_line}
 
 some_is : (x y : ℕ) → Some x ≡ Some y → x ≡ y
@@ -23,10 +23,10 @@ front_cell n k word cells more is =
 
 pub one_cell_more : (n next k word : ℕ) (cells before after : List ℕ) (whole : List ℕ) → next ≡ n + 1
     → n < min k (length cells) → Some word ≡ slice_get cells n → after ≡ before ++ cell_line n word
-    → before ++ cell_lines n (drop n (take k cells)) ≡ whole
-    → after ++ cell_lines next (drop next (take k cells)) ≡ whole
+    → before ++ memory_cell_lines n (drop n (take k cells)) ≡ whole
+    → after ++ memory_cell_lines next (drop next (take k cells)) ≡ whole
 one_cell_more n next k word cells before after whole step more is grown so_far =
     let same : next ≡ suc n = omega arith in
-    rw (same, grown) (append_assoc before (cell_line n word) (cell_lines (suc n) (drop (suc n) (take k cells)))
-    ∙ ap (λ xs. before ++ cell_lines n xs) (sym (front_cell n k word cells more (sym is)))
+    rw (same, grown) (append_assoc before (cell_line n word) (memory_cell_lines (suc n) (drop (suc n) (take k cells)))
+    ∙ ap (λ xs. before ++ memory_cell_lines n xs) (sym (front_cell n k word cells more (sym is)))
     ∙ so_far)

@@ -10,9 +10,9 @@ use Rattle.two_way_debugger.specs.declared.moves.Ending.{Ending}
 use Rattle.two_way_debugger.specs.declared.moves.Ending.TheVariants.{Made, Last, Start, Stopped}
 
 -- the next position, or the one before
-abbrev pub moved : (backward : Bool) → Position → Position
-moved false p = record p { state = next p.image.code p.state; made = suc p.made }
-moved true p = record p { state = back p.image.code p.state; made = p.made - 1 }
+abbrev pub moved_position : (backward : Bool) → Position → Position
+moved_position false p = record p { state = next p.image.code p.state; made = suc p.made }
+moved_position true p = record p { state = back p.image.code p.state; made = p.made - 1 }
 
 -- why no move is made from a position, if none is: at a stop, at the last position and at position
 -- 0
@@ -27,7 +27,7 @@ is_at None p = false
 is_at (Some place) p = int_eq p.state.pc place
 
 -- how moves end: where, why, and after how many steps of the machine, its stop included
-pub record Walk : Type 0 where
+pub record MachineWalk : Type 0 where
   pub position : Position
   pub ending : Ending
   pub spent : ℕ
@@ -42,20 +42,20 @@ abbrev pub spent_by : Option Ending → ℕ
 spent_by None = 1
 spent_by (Some ending) = spent_on ending
 
-abbrev pub ends : Position → Ending → Walk
-ends p ending = record { position = p; ending = ending; spent = spent_on ending }
+abbrev pub machine_walk_ends : Position → Ending → MachineWalk
+machine_walk_ends p ending = record { position = p; ending = ending; spent = spent_on ending }
 
 -- moves after others
-abbrev pub later : ℕ → Walk → Walk
-later n w = record w { spent = n + w.spent }
+abbrev pub later_walk : ℕ → MachineWalk → MachineWalk
+later_walk n w = record w { spent = n + w.spent }
 
-abbrev pub unless_ended : Option Ending → Position → Walk → Walk
-unless_ended (Some ending) p rest = ends p ending
+abbrev pub unless_ended : Option Ending → Position → MachineWalk → MachineWalk
+unless_ended (Some ending) p rest = machine_walk_ends p ending
 unless_ended None p rest = record rest { spent = suc rest.spent }
 
 -- at most n moves, up to the first after which the machine is at the code address
-abbrev pub walk : (backward : Bool) → (place : Option ℤ) → ℕ → Position → Walk
-walk backward place zero p = ends p Made
-walk backward place (suc n) p =
-    unless_ended (barrier backward p) p (if is_at place (moved backward p)
-    then ends (moved backward p) Made else walk backward place n (moved backward p))
+abbrev pub machine_walk : (backward : Bool) → (place : Option ℤ) → ℕ → Position → MachineWalk
+machine_walk backward place zero p = machine_walk_ends p Made
+machine_walk backward place (suc n) p =
+    unless_ended (barrier backward p) p (if is_at place (moved_position backward p)
+    then machine_walk_ends (moved_position backward p) Made else machine_walk backward place n (moved_position backward p))

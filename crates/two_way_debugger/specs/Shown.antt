@@ -9,7 +9,7 @@ use Rattle.two_way_debugger.specs.declared.moves.Ending.TheVariants.{Made, Last,
 use Rattle.pisa_scripts.specs.declared.command.Command.{Command}
 use Rattle.pisa_scripts.specs.declared.command.Command.TheVariants.{Step, Back, To, BackTo}
 use Rattle.pisa_scripts.specs.declared.command.Command.TheVariants.{Regs, Cells}
-use Rattle.two_way_debugger.specs.Moves.{Walk, ends, walk}
+use Rattle.two_way_debugger.specs.Moves.{MachineWalk, machine_walk_ends, machine_walk}
 use Rattle.pisa_scripts.specs.rpp_words.Texts.{line_end}
 use Rattle.pisa_scripts.specs.Words.{word_shown, direction, register_lines, cell_line}
 use Rattle.pisa_scripts.specs.Stops.{stop_line}
@@ -30,7 +30,7 @@ at_shown p ending =
     ++ (codes " dir " ++ direction p.state.back)))))))
     ++ ending_shown ending
 
-abbrev pub walk_shown : Walk → List ℕ
+abbrev pub walk_shown : MachineWalk → List ℕ
 walk_shown w = at_shown w.position w.ending
 
 abbrev pub registers_shown : List ℕ → List ℕ
@@ -38,22 +38,22 @@ registers_shown words = if list_all (nat_eq 0) words then codes "all zero" ++ li
     else register_lines 0 words
 
 -- cells from this number on
-abbrev pub cell_lines : (number : ℕ) → List ℕ → List ℕ
-cell_lines number [] = []
-cell_lines number (word ∷ words) = cell_line number word ++ cell_lines (suc number) words
+abbrev pub memory_cell_lines : (number : ℕ) → List ℕ → List ℕ
+memory_cell_lines number [] = []
+memory_cell_lines number (word ∷ words) = cell_line number word ++ memory_cell_lines (suc number) words
 
 -- those of so many cells from this number on that there are
 abbrev pub cells_shown : (from count : ℕ) → List ℕ → List ℕ
-cells_shown from count words = cell_lines from (drop from (take (from + count) words))
+cells_shown from count words = memory_cell_lines from (drop from (take (from + count) words))
 
 -- the moves of a command; two commands make none
-abbrev pub walk_of : Command → Position → Walk
-walk_of (Step n) p = walk false None n p
-walk_of (Back n) p = walk true None n p
-walk_of (To place n) p = walk false (Some place) n p
-walk_of (BackTo place n) p = walk true (Some place) n p
-walk_of Regs p = ends p Made
-walk_of (Cells from count) p = ends p Made
+abbrev pub walk_of : Command → Position → MachineWalk
+walk_of (Step n) p = machine_walk false None n p
+walk_of (Back n) p = machine_walk true None n p
+walk_of (To place n) p = machine_walk false (Some place) n p
+walk_of (BackTo place n) p = machine_walk true (Some place) n p
+walk_of Regs p = machine_walk_ends p Made
+walk_of (Cells from count) p = machine_walk_ends p Made
 
 -- how many moves a command may make
 abbrev pub most_moves : Command → ℕ

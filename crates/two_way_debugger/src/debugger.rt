@@ -1,7 +1,7 @@
 // Debuggers.
 ghost use Rattle.std.specs.Prelude.{◌≡◌, ◌≤◌, ◌+◌, ◌++◌, IfOk, OnOk, OnErr, string_bytes};
 ghost use Rattle.two_way_debugger.specs.Along.{IsAlong};
-ghost use Rattle.two_way_debugger.specs.Moves.{walk};
+ghost use Rattle.two_way_debugger.specs.Moves.{machine_walk};
 ghost use Rattle.two_way_debugger.specs.Shown.{walk_of, walk_shown, text_of, most_moves, position_after, shown, spent_in};
 
 use crate::moves::make_moves;
@@ -36,11 +36,11 @@ fn walk_text<L: Ledger>(
     most: u64,
     steps: &mut Steps<L>,
 ) -> Result<String, AllocError>
-    ensures position { machine.new ≡ (walk backward place most machine.old).position }
+    ensures position { machine.new ≡ (machine_walk backward place most machine.old).position }
     ensures text { IfOk result (λ text. string_bytes text
-        ≡ walk_shown (walk backward place most machine.old)) }
-    ensures counter { steps.new ≡ steps.old + (walk backward place most machine.old).spent }
-    ensures within { (walk backward place most machine.old).spent ≤ most }
+        ≡ walk_shown (machine_walk backward place most machine.old)) }
+    ensures counter { steps.new ≡ steps.old + (machine_walk backward place most machine.old).spent }
+    ensures within { (machine_walk backward place most machine.old).spent ≤ most }
 {
     let ending = make_moves(machine, backward, place, most, steps);
     walk_line(alloc, machine, ending)

@@ -1,6 +1,6 @@
 // Moves along the positions of a machine.
 ghost use Rattle.std.specs.Prelude.{◌≡◌, ◌≤◌, ◌+◌, ℤ, Some, true, false, if◌then◌else◌, is_some};
-ghost use Rattle.two_way_debugger.specs.Moves.{moved, barrier, is_at as at_place, walk, spent_by, Walk};
+ghost use Rattle.two_way_debugger.specs.Moves.{moved_position, barrier, is_at as at_place, machine_walk, spent_by, MachineWalk};
 
 use pisa_isa::Stop;
 use pisa_machine::{Machine, Steps};
@@ -25,7 +25,7 @@ pub(crate) enum Ending {
 // One step forward, or why none is made.
 fn step<L: Ledger>(machine: &mut Machine, steps: &mut Steps<L>) -> Option<Ending>
     ensures ending { result ≡ barrier false machine.old }
-    ensures position { machine.new ≡ (if is_some result then machine.old else moved false machine.old) }
+    ensures position { machine.new ≡ (if is_some result then machine.old else moved_position false machine.old) }
     ensures counter { steps.new ≡ steps.old + spent_by result }
 {
     if machine.made() >= LAST_POSITION {
@@ -40,7 +40,7 @@ fn step<L: Ledger>(machine: &mut Machine, steps: &mut Steps<L>) -> Option<Ending
 // One step back, or why none is made.
 fn step_back<L: Ledger>(machine: &mut Machine, steps: &mut Steps<L>) -> Option<Ending>
     ensures ending { result ≡ barrier true machine.old }
-    ensures position { machine.new ≡ (if is_some result then machine.old else moved true machine.old) }
+    ensures position { machine.new ≡ (if is_some result then machine.old else moved_position true machine.old) }
     ensures counter { steps.new ≡ steps.old + spent_by result }
 {
     if machine.step_back(steps) {
@@ -58,7 +58,7 @@ fn move_once<L: Ledger>(
 ) -> Option<Ending>
     ensures ending { result ≡ barrier backward machine.old }
     ensures position { machine.new ≡ (if is_some result then machine.old
-        else moved backward machine.old) }
+        else moved_position backward machine.old) }
     ensures counter { steps.new ≡ steps.old + spent_by result }
 {
     if backward {
@@ -80,9 +80,9 @@ fn is_at(machine: &Machine, place: Option<i64>) -> bool
 
 // At most so many moves forward, in one run of the machine.
 fn run_on<L: Ledger>(machine: &mut Machine, most: u64, steps: &mut Steps<L>) -> Ending
-    ensures ending { result ≡ (walk false None most machine.old).ending }
-    ensures position { machine.new ≡ (walk false None most machine.old).position }
-    ensures counter { steps.new ≡ steps.old + (walk false None most machine.old).spent }
+    ensures ending { result ≡ (machine_walk false None most machine.old).ending }
+    ensures position { machine.new ≡ (machine_walk false None most machine.old).position }
+    ensures counter { steps.new ≡ steps.old + (machine_walk false None most machine.old).spent }
 {
     let before = machine.made();
     if most == 0 {
@@ -111,10 +111,10 @@ fn move_each<L: Ledger>(
     most: u64,
     steps: &mut Steps<L>,
 ) -> Ending
-    ensures ending { result ≡ (walk backward place most machine.old).ending }
-    ensures position { machine.new ≡ (walk backward place most machine.old).position }
-    ensures counter { steps.new ≡ steps.old + (walk backward place most machine.old).spent }
-    ensures within { (walk backward place most machine.old).spent ≤ most }
+    ensures ending { result ≡ (machine_walk backward place most machine.old).ending }
+    ensures position { machine.new ≡ (machine_walk backward place most machine.old).position }
+    ensures counter { steps.new ≡ steps.old + (machine_walk backward place most machine.old).spent }
+    ensures within { (machine_walk backward place most machine.old).spent ≤ most }
 {
     for made in 0..most {
         if let Some(ending) = move_once(machine, backward, steps) {
@@ -136,10 +136,10 @@ pub(crate) fn make_moves<L: Ledger>(
     most: u64,
     steps: &mut Steps<L>,
 ) -> Ending
-    ensures ending { result ≡ (walk backward place most machine.old).ending }
-    ensures position { machine.new ≡ (walk backward place most machine.old).position }
-    ensures counter { steps.new ≡ steps.old + (walk backward place most machine.old).spent }
-    ensures within { (walk backward place most machine.old).spent ≤ most }
+    ensures ending { result ≡ (machine_walk backward place most machine.old).ending }
+    ensures position { machine.new ≡ (machine_walk backward place most machine.old).position }
+    ensures counter { steps.new ≡ steps.old + (machine_walk backward place most machine.old).spent }
+    ensures within { (machine_walk backward place most machine.old).spent ≤ most }
 {
     match place {
         None if !backward => run_on(machine, most, steps),

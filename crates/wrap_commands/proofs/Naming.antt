@@ -5,10 +5,10 @@ use Rattle.std.proofs.lemmas.List.{nil_from_length, drop_more}
 use Rattle.pisa_loader.specs.declared.input.InputField.{InputField}
 use Rattle.wrap_commands.specs.declared.error.NamesError.{NamesError}
 use Rattle.wrap_commands.specs.declared.error.NamesError.TheVariants.{UnknownResult, NoMemory}
-use Rattle.wrap_commands.specs.WrapNames.{field_of_name, with_result, results_from, Fails}
+use Rattle.wrap_commands.specs.WrapNames.{field_of_name, with_result, results_from, NamesFail}
 
 pub fails_with : (e : NamesError) (inner whole : Result (List InputField) NamesError)
-    → ((r : NamesError) → inner ≡ Err r → whole ≡ Err r) → Fails e inner → Fails e whole
+    → ((r : NamesError) → inner ≡ Err r → whole ≡ Err r) → NamesFail e inner → NamesFail e whole
 fails_with NoMemory inner whole go f = tt
 fails_with (UnknownResult at) inner whole go f = go (UnknownResult at) f
 

@@ -26,7 +26,7 @@ use Rattle.program_runs.proofs.run_settings_laws.ValidInput.{int_field}
 use Rattle.wrap_commands.specs.declared.error.NamesError.{NamesError}
 use Rattle.wrap_commands.specs.declared.error.NamesError.TheVariants.{UnknownResult}
 use Rattle.wrap_commands.specs.WrapNames.{field_of_name, with_result, results_from, results_of}
-use Rattle.wrap_commands.specs.WrapShown.{HasAsciiName}
+use Rattle.wrap_commands.specs.WrapShown.{HasAsciiFieldName}
 use Rattle.wrap_commands.specs.WrapPlans.{AreResults}
 
 -- ---- what a name adds
@@ -153,13 +153,13 @@ fields_are_int program =
     let own = fields_are_own (input_fields program) in
     λ k d h. int_field program _ (sym (same_test (input_fields program) _) ∙ own k d h)
 
-ascii_next : (own : InputField) (fields : List InputField) (b : Bool) → HasAsciiName own → All HasAsciiName fields
-    → All HasAsciiName (if b then own ∷ fields else fields)
-ascii_next own fields true first rest = All-cons HasAsciiName own fields first rest
+ascii_next : (own : InputField) (fields : List InputField) (b : Bool) → HasAsciiFieldName own → All HasAsciiFieldName fields
+    → All HasAsciiFieldName (if b then own ∷ fields else fields)
+ascii_next own fields true first rest = All-cons HasAsciiFieldName own fields first rest
 ascii_next own fields false first rest = rest
 
-ascii_from : (number : ℕ) (vars : List Var) → All HasAsciiVar vars → All HasAsciiName (fields_from number vars)
-ascii_from number [] all = All-nil HasAsciiName
+ascii_from : (number : ℕ) (vars : List Var) → All HasAsciiVar vars → All HasAsciiFieldName (fields_from number vars)
+ascii_from number [] all = All-nil HasAsciiFieldName
 ascii_from number (var ∷ vars) all =
     ascii_next (record { name = var.name.text; field = number }) (fields_from (number + 1) vars) (is_int_type var.kind)
     (All-head HasAsciiVar var vars all)
@@ -174,7 +174,7 @@ are_results program names results accepted small e =
     record {
       ints = all_results (IsIntIn program) fields [] results parts (fields_are_int program) (All-nil (IsIntIn program))
           e;
-      names = all_results HasAsciiName fields [] results parts
-          (ascii_from 0 (main_fields program) (ascii_main_fields program accepted)) (All-nil HasAsciiName) e;
+      names = all_results HasAsciiFieldName fields [] results parts
+          (ascii_from 0 (main_fields program) (ascii_main_fields program accepted)) (All-nil HasAsciiFieldName) e;
       few = let le = no_more fields results parts e in omega (arith, le, small);
     }

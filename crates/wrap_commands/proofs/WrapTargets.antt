@@ -23,7 +23,7 @@ use Rattle.program_runs.specs.run_settings.Inputs.{input_fields, given_input}
 use Rattle.wrap_commands.specs.declared.error.NamesError.{NamesError}
 use Rattle.wrap_commands.specs.declared.error.NamesError.TheVariants.{UnknownResult, NoMemory}
 use Rattle.wrap_commands.specs.WrapNames.{results_of}
-use Rattle.wrap_commands.specs.WrapPlans.{TellsStop, OfRunProgram, IsGivenPlan, IsNamedPlan, IsSizedPlan, IsWrapPlan}
+use Rattle.wrap_commands.specs.WrapPlans.{TellsStop, OfRunProgram, IsGivenPlan, IsNamedPlan, IsSizedWrapPlan, IsWrapPlan}
 use Rattle.wrap_commands.specs.WrapPlans.{WrapsFile}
 
 stop_writes : (why : Stop) (program : Source) (image : Segments) (fields : List InputField) (limits : Limits)
@@ -52,13 +52,13 @@ module _ (count counted : ℕ) where
       given_writes (given_input program given) program fields limits steps p h
 
   sized_writes : (refusal : Option LoadError) (names given : List ℕ) (program : Source) (limits : Limits) (steps : ℕ)
-      (p : Planned) → IsSizedPlan count counted refusal names given program limits steps p → WritesOnly p None
+      (p : Planned) → IsSizedWrapPlan count counted refusal names given program limits steps p → WritesOnly p None
   sized_writes (Some e) names given program limits steps p h = along p _ None h.0 (inl refl)
   sized_writes None names given program limits steps p h =
       named_writes (results_of (input_fields program) names) given program limits steps p h
 
   judged_writes : (judgement : Result Source Refusal) (names given : List ℕ) (sizes : Sizes) (p : Planned)
-      → OfRunProgram count counted (λ program. IsSizedPlan count counted
+      → OfRunProgram count counted (λ program. IsSizedWrapPlan count counted
       (limits_refusal sizes.room.heap sizes.room.deep MOST_DEEP) names
       given program (record { heap = sizes.room.heap; deep = sizes.room.deep }) sizes.bound) judgement p
       → WritesOnly p None

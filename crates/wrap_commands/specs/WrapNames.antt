@@ -43,11 +43,11 @@ abbrev pub HasLowNumber : InputField → Type 0
 HasLowNumber field = field.field < 2 ^ 20
 
 -- what a function returned, seen by `view`, is what reading gives, unless memory ran out
-abbrev pub Fails : NamesError → Result (List InputField) NamesError → Type 0
-Fails NoMemory read = Unit {0}
-Fails refusal read = read ≡ Err refusal
+abbrev pub NamesFail : NamesError → Result (List InputField) NamesError → Type 0
+NamesFail NoMemory read = Unit {0}
+NamesFail refusal read = read ≡ Err refusal
 
-abbrev pub Gives : {X : Type 0} → (X → List InputField) → Result X NamesError
+abbrev pub NamesGive : {X : Type 0} → (X → List InputField) → Result X NamesError
     → Result (List InputField) NamesError → Type 0
-Gives view (Ok x) read = read ≡ Ok (view x)
-Gives view (Err e) read = Fails e read
+NamesGive view (Ok x) read = read ≡ Ok (view x)
+NamesGive view (Err e) read = NamesFail e read

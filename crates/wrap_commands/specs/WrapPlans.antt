@@ -37,14 +37,14 @@ use Rattle.program_runs.specs.Reports.{ReportsFault}
 use Rattle.wrap_commands.specs.declared.error.NamesError.{NamesError}
 use Rattle.wrap_commands.specs.declared.error.NamesError.TheVariants.{UnknownResult, NoMemory}
 use Rattle.wrap_commands.specs.WrapNames.{result_cells, results_of}
-use Rattle.wrap_commands.specs.WrapShown.{HasAsciiName, result_lines, initial_line}
+use Rattle.wrap_commands.specs.WrapShown.{HasAsciiFieldName, result_lines, initial_line}
 use Rattle.wrap_commands.specs.WrapShown.{unknown_result_line}
 
 -- at most 64 int fields of the main class
 pub record AreResults (program : Source) (fields : List InputField) : Type 0 where
   pub ints : All (λ field. IsTrue (is_int_field (slice_get (main_fields program) field.field)))
       fields
-  pub names : All HasAsciiName fields
+  pub names : All HasAsciiFieldName fields
   pub few : length fields ≤ 64
 
 -- The semantics gives a store, and the plan reports its named fields. The final memory is the
@@ -109,11 +109,11 @@ IsNamedPlan count counted (Ok fields) given program limits steps p =
     IsGivenPlan count counted (given_input program given) program fields limits steps p
 
 -- the sizes of heap and stack are tried before the names
-abbrev pub IsSizedPlan : (count counted : ℕ) → Option LoadError → (names given : List ℕ) → Source
+abbrev pub IsSizedWrapPlan : (count counted : ℕ) → Option LoadError → (names given : List ℕ) → Source
     → Limits → ℕ → Planned → Type 0
-IsSizedPlan count counted (Some e) names given program limits steps p =
+IsSizedWrapPlan count counted (Some e) names given program limits steps p =
     (p ≡ prints InputRefused (load_line e)) × (counted ≡ count)
-IsSizedPlan count counted None names given program limits steps p =
+IsSizedWrapPlan count counted None names given program limits steps p =
     IsNamedPlan count counted (results_of (input_fields program) names) given program limits steps p
 
 -- the first refusal of a text is reported and no step is made, or P holds for the program that it
@@ -129,7 +129,7 @@ pub record IsWrapPlan (count counted : ℕ) (text names given : List ℕ) (sizes
   pub judgement : Result Source Refusal
   pub judged : IsJudged text judgement
   pub plan : OfRunProgram count counted
-      (λ program. IsSizedPlan count counted (limits_refusal sizes.room.heap sizes.room.deep
+      (λ program. IsSizedWrapPlan count counted (limits_refusal sizes.room.heap sizes.room.deep
       MOST_DEEP) names given
       program (record { heap = sizes.room.heap; deep = sizes.room.deep }) sizes.bound) judgement p
 

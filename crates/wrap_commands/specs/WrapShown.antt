@@ -10,8 +10,8 @@ use Rattle.program_runs.specs.run_settings.roopl_semantics.Report.{signed_decima
 use Rattle.pisa_isa.specs.Machine.{word_at}
 
 -- a name that can be printed byte by byte
-abbrev pub HasAsciiName : InputField → Type 0
-HasAsciiName field = IsAscii field.name
+abbrev pub HasAsciiFieldName : InputField → Type 0
+HasAsciiFieldName field = IsAscii field.name
 
 -- NAME = V
 abbrev pub result_line : (name value : List ℕ) → List ℕ

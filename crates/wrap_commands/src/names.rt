@@ -1,7 +1,7 @@
 // The names of results.
 ghost use Rattle.std.specs.Prelude.{◌≡◌, ◌++◌, ◌∷◌, [], IfOk, MatchOption, Some, None};
 ghost use Rattle.pisa_loader.specs.InputLines.{is_field};
-ghost use Rattle.wrap_commands.specs.WrapNames.{field_of_name, with_result, results_of, Gives};
+ghost use Rattle.wrap_commands.specs.WrapNames.{field_of_name, with_result, results_of, NamesGive};
 
 use crate::error::NamesError;
 use pisa_loader::InputField;
@@ -15,7 +15,7 @@ pub(crate) fn read_names(
     names: &[u8],
     fields: &[InputField],
 ) -> Result<Vec<InputField>, NamesError>
-    ensures { Gives (λ results. results.items) result (results_of fields.now names.now) }
+    ensures { NamesGive (λ results. results.items) result (results_of fields.now names.now) }
 {
     let parts = pieces(alloc, b',', names)?;
     let mut results = Vec::new(alloc);
@@ -33,7 +33,7 @@ fn next_result(
     results: &[InputField],
     name: &[u8],
 ) -> Result<InputField, NamesError>
-    ensures { Gives (λ field. results.now ++ field ∷ []) result
+    ensures { NamesGive (λ field. results.now ++ field ∷ []) result
         (with_result results.now (field_of_name fields.now name.now)) }
 {
     match field_of_name(fields, name) {

@@ -5,11 +5,11 @@ ghost use Rattle.rpp_tree.specs.declared.limits.TheConstants.{MOST_BYTES};
 ghost use Rattle.rpp_words.specs.Limits.{IsLimits};
 ghost use Rattle.pisa_loader.specs.Limiting.{limits_refusal};
 ghost use Rattle.pisa_loader.specs.declared.input.TheConstants.{MOST_INPUT};
-ghost use Rattle.command_plan.specs.Files.{OnlyReads, UnreadCause, source, input_files};
+ghost use Rattle.command_plan.specs.Files.{OnlyReads, UnreadCause, source_file, input_files};
 ghost use Rattle.command_plan.specs.Plans.{planned, GivesPlan};
 ghost use Rattle.program_runs.specs.run_settings.Inputs.{input_fields as fields_of, given_input};
 ghost use Rattle.wrap_commands.specs.WrapNames.{results_of};
-ghost use Rattle.wrap_commands.specs.WrapPlans.{AreResults, IsGivenPlan, IsNamedPlan, IsSizedPlan, IsWrapPlan, WrapsFile};
+ghost use Rattle.wrap_commands.specs.WrapPlans.{AreResults, IsGivenPlan, IsNamedPlan, IsSizedWrapPlan, IsWrapPlan, WrapsFile};
 
 use crate::error::NamesError;
 use crate::names::read_names;
@@ -55,7 +55,7 @@ pub fn wrap<S: Shelf, L: Ledger>(
     ensures unread { IfErr result (UnreadCause (steps.new ≡ steps.old)) }
     ensures reads { OnlyReads (S.texts shelf.old) (S.texts shelf.new) (S.faults shelf.old)
         (S.faults shelf.new)
-        (source file.now ∷ input_files (option_map string_bytes input.now)) result }
+        (source_file file.now ∷ input_files (option_map string_bytes input.now)) result }
 {
     let given = read_given(alloc, shelf, file, input)?;
     let wanted = names.as_bytes().to_vec(alloc)?;
@@ -96,7 +96,7 @@ fn wrap_sized<L: Ledger>(
 ) -> Result<Plan, NoMemory>
     requires input { length request.now.input.items ≤ MOST_INPUT }
     requires bound { request.now.sizes.bound < 2 ^ 63 }
-    ensures plan { IfOk result (λ plan. IsSizedPlan steps.old steps.new
+    ensures plan { IfOk result (λ plan. IsSizedWrapPlan steps.old steps.new
         (limits_refusal request.now.sizes.room.heap request.now.sizes.room.deep MOST_DEEP)
         request.now.names.items request.now.input.items (source_of checked.now)
         (record { heap = request.now.sizes.room.heap; deep = request.now.sizes.room.deep })

@@ -3,7 +3,7 @@ ghost use Rattle.std.specs.Prelude.{◌≡◌, ◌≤◌, ◌+◌, ◌++◌, ◌
 ghost use Rattle.std.specs.Str.{IsAscii};
 ghost use Rattle.program_runs.specs.run_settings.roopl_semantics.Report.{signed_decimal};
 ghost use Rattle.command_plan.specs.Plans.{planned, prints};
-ghost use Rattle.wrap_commands.specs.WrapShown.{HasAsciiName, result_line, word_lines, initial_line, unknown_result_line};
+ghost use Rattle.wrap_commands.specs.WrapShown.{HasAsciiFieldName, result_line, word_lines, initial_line, unknown_result_line};
 
 use command_plan::{Plan, Verdict};
 use pisa_loader::InputField;
@@ -17,7 +17,7 @@ pub(crate) fn add_results(
     at: u32,
     results: &[InputField],
 ) -> Result<(), AllocError>
-    requires names { All HasAsciiName results.now }
+    requires names { All HasAsciiFieldName results.now }
     requires room { at + length results.now < 2 ^ 32 }
     ensures { OnOk result (string_bytes out.new
         ≡ string_bytes out.old ++ word_lines results.now machine.now.state.cells at) }
@@ -33,7 +33,7 @@ pub(crate) fn add_results(
 
 // The line of a result.
 fn add_result(out: &mut String, field: &InputField, word: u32) -> Result<(), AllocError>
-    requires { HasAsciiName field.now }
+    requires { HasAsciiFieldName field.now }
     ensures { OnOk result (string_bytes out.new
         ≡ string_bytes out.old ++ result_line field.now.name (signed_decimal word)) }
 {

@@ -1,7 +1,7 @@
 use Rattle.std.proofs.Common.{◌≡◌, ◌∙◌, ◌≤◌, ◌++◌, ◌∷◌, [], ap, subst, sym}
 use Rattle.image_inverter.specs.pisa_isa.declared.image.TheConstants.{MOST_CELLS}
 use Rattle.image_inverter.specs.pisa_isa.Image.{Segments}
-use Rattle.paired_code.specs.Cells.{start, finish}
+use Rattle.paired_code.specs.Cells.{start_cell, finish}
 use Rattle.paired_code.specs.Code.{Code, bodies}
 use Rattle.paired_code.specs.Link.{link_size, link_code}
 use Rattle.bennett_wrap.proofs.Written.{small_row, linked_row}
@@ -21,5 +21,5 @@ returns c =
           ∙ linked_row c.deref.result.now main c.in_ok-noted.noted.image.code
           (c.in_ok-noted.ensures.code ∙ ap (λ z. link_code main (bodies z)) c.new.ensures.items)
           (ap (λ (p : Code). p.cells) c.in_ok-main.ensures)
-          ∙ ap (λ r. start ∷ (r ++ finish ∷ [])) (c.deref.ensures.value ∙ c.in_ok-row.ensures.row);
+          ∙ ap (λ r. start_cell ∷ (r ++ finish ∷ [])) (c.deref.ensures.value ∙ c.in_ok-row.ensures.row);
     }

@@ -1,6 +1,6 @@
 use Rattle.std.proofs.Common.{◌≡◌, ◌∙◌, ◌≤◌, ◌+◌, sym, ap, [], map, length, get_or, Bor, List, ℕ, arith}
 use Rattle.std.proofs.lemmas.Result.{err_from_is_err_and}
-use Rattle.cluster_commands.specs.ClusterScripts.{with_line, events_from}
+use Rattle.cluster_commands.specs.ClusterScripts.{with_event_line, events_from}
 use Rattle.command_plan.specs.pisa_scripts.Lines.{pieces}
 use Rattle.cluster_commands.proofs.Reading.{fails_with, goes_on, stops, is_done}
 use Rattle.cluster_commands.proofs.script.read_lines.Goals as goal
@@ -30,7 +30,7 @@ returns-in_err-add_line c =
     ap (λ xs. events_from c.args.processors 1 [] (map text_of xs)) c.deref-line-items.ensures.value
     ∙ ap (events_from c.args.processors 1 []) c.in_ok-lines.ensures in
     rw (p.1, p.2) (record {
-      events = fails_with c.in_err-add_line.field-0.0 (with_line c.args.processors l.number l.events.items
+      events = fails_with c.in_err-add_line.field-0.0 (with_event_line c.args.processors l.number l.events.items
           (text_of (get_or items l.line-index no_line))) (events_from c.args.processors 1 []
           (pieces 10 c.args.text.now))
           (λ r e. sym all ∙ stops c.args.processors text_of l.number l.events.items items l.line-index no_line r

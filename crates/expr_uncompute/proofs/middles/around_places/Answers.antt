@@ -3,7 +3,7 @@ use Rattle.std.specs.Prelude.{◌≤◌, ◌*◌, ◌+◌, length}
 use Rattle.rpp_tree.specs.Views.{lvalue_of}
 use Rattle.register_expressions.specs.paired_code.Code.{unmarked}
 use Rattle.register_expressions.proofs.paired_code_laws.Contract.{if_ok_law}
-use Rattle.register_expressions.specs.code_scope.Visible.{spot_of, free_of, known_by}
+use Rattle.register_expressions.specs.code_scope.Visible.{spot_of, free_words_of, known_by}
 use Rattle.register_expressions.specs.Code.{around}
 use Rattle.expr_uncompute.specs.Code.{found_places_cells}
 use Rattle.expr_uncompute.specs.Found.{PlacesAroundLaw}
@@ -17,17 +17,17 @@ returns-clause-code c = search rules
 
 pub returns-clause-law : goal.returns-clause-law
 returns-clause-law c = if_ok_law (λ p. PlacesAroundLaw (spot_of (known_by c.args.names.now))
-    (free_of (known_by c.args.names.now)) (lvalue_of c.args.source.now) (lvalue_of c.args.target.now)
+    (free_words_of (known_by c.args.names.now)) (lvalue_of c.args.source.now) (lvalue_of c.args.target.now)
     c.args.middle.cells p.cells) _ (unmarked (around (found_places_cells (spot_of (known_by c.args.names.now))
-    (free_of (known_by c.args.names.now)) (lvalue_of c.args.source.now) (lvalue_of c.args.target.now))
+    (free_words_of (known_by c.args.names.now)) (lvalue_of c.args.source.now) (lvalue_of c.args.target.now))
     c.args.middle.cells)) (returns-clause-code c) (AroundLaws.places_around (spot_of (known_by c.args.names.now))
-    (free_of (known_by c.args.names.now)) (lvalue_of c.args.source.now) (lvalue_of c.args.target.now)
+    (free_words_of (known_by c.args.names.now)) (lvalue_of c.args.source.now) (lvalue_of c.args.target.now)
     c.args.middle.cells)
 
 pub returns-clause-size : goal.returns-clause-size
 returns-clause-size c = if_ok_law (λ p. length p.cells ≤ length c.args.middle.cells + 80 *
     (place_tokens (lvalue_of c.args.source.now) + place_tokens (lvalue_of c.args.target.now))) _
-    (unmarked (around (found_places_cells (spot_of (known_by c.args.names.now)) (free_of (known_by c.args.names.now))
+    (unmarked (around (found_places_cells (spot_of (known_by c.args.names.now)) (free_words_of (known_by c.args.names.now))
     (lvalue_of c.args.source.now) (lvalue_of c.args.target.now)) c.args.middle.cells)) (returns-clause-code c)
-    (Bounds.places_around (spot_of (known_by c.args.names.now)) (free_of (known_by c.args.names.now))
+    (Bounds.places_around (spot_of (known_by c.args.names.now)) (free_words_of (known_by c.args.names.now))
     (lvalue_of c.args.source.now) (lvalue_of c.args.target.now) c.args.middle.cells)

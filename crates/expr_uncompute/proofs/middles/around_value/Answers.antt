@@ -3,11 +3,11 @@ use Rattle.std.specs.Prelude.{◌≤◌, ◌*◌, ◌+◌, length}
 use Rattle.rpp_tree.specs.Views.{expression_of, lvalue_of}
 use Rattle.register_expressions.specs.paired_code.Code.{unmarked}
 use Rattle.register_expressions.proofs.paired_code_laws.Contract.{if_ok_law}
-use Rattle.register_expressions.specs.code_scope.Visible.{spot_of, free_of, known_by}
+use Rattle.register_expressions.specs.code_scope.Visible.{spot_of, free_words_of, known_by}
 use Rattle.register_expressions.specs.Code.{around}
 use Rattle.expr_uncompute.specs.Code.{found_value_cells}
 use Rattle.expr_uncompute.specs.Found.{ValueAroundLaw}
-use Rattle.register_expressions.specs.Steps.{tokens}
+use Rattle.register_expressions.specs.Steps.{token_count}
 use Rattle.expr_uncompute.specs.Steps.{place_tokens}
 use Rattle.expr_uncompute.proofs.Bounds
 use Rattle.expr_uncompute.proofs.AroundLaws
@@ -18,17 +18,17 @@ returns-clause-code c = search rules
 
 pub returns-clause-law : goal.returns-clause-law
 returns-clause-law c = if_ok_law (λ p. ValueAroundLaw (spot_of (known_by c.args.names.now))
-    (free_of (known_by c.args.names.now)) (lvalue_of c.args.place.now) (expression_of c.args.value.now)
+    (free_words_of (known_by c.args.names.now)) (lvalue_of c.args.place.now) (expression_of c.args.value.now)
     c.args.middle.cells p.cells) _ (unmarked (around (found_value_cells (spot_of (known_by c.args.names.now))
-    (free_of (known_by c.args.names.now)) (lvalue_of c.args.place.now) (expression_of c.args.value.now))
+    (free_words_of (known_by c.args.names.now)) (lvalue_of c.args.place.now) (expression_of c.args.value.now))
     c.args.middle.cells)) (returns-clause-code c) (AroundLaws.value_around (spot_of (known_by c.args.names.now))
-    (free_of (known_by c.args.names.now)) (lvalue_of c.args.place.now) (expression_of c.args.value.now)
+    (free_words_of (known_by c.args.names.now)) (lvalue_of c.args.place.now) (expression_of c.args.value.now)
     c.args.middle.cells)
 
 pub returns-clause-size : goal.returns-clause-size
 returns-clause-size c = if_ok_law (λ p. length p.cells ≤ length c.args.middle.cells + 80 *
-    (place_tokens (lvalue_of c.args.place.now) + tokens (expression_of c.args.value.now))) _
-    (unmarked (around (found_value_cells (spot_of (known_by c.args.names.now)) (free_of (known_by c.args.names.now))
+    (place_tokens (lvalue_of c.args.place.now) + token_count (expression_of c.args.value.now))) _
+    (unmarked (around (found_value_cells (spot_of (known_by c.args.names.now)) (free_words_of (known_by c.args.names.now))
     (lvalue_of c.args.place.now) (expression_of c.args.value.now)) c.args.middle.cells)) (returns-clause-code c)
-    (Bounds.value_around (spot_of (known_by c.args.names.now)) (free_of (known_by c.args.names.now))
+    (Bounds.value_around (spot_of (known_by c.args.names.now)) (free_words_of (known_by c.args.names.now))
     (lvalue_of c.args.place.now) (expression_of c.args.value.now) c.args.middle.cells)

@@ -2,11 +2,11 @@ use Rattle.std.proofs.Common.{rules}
 use Rattle.rpp_tree.specs.Views.{expression_of}
 use Rattle.register_expressions.specs.paired_code.Code.{unmarked}
 use Rattle.register_expressions.proofs.paired_code_laws.Contract.{if_ok_law}
-use Rattle.register_expressions.specs.code_scope.Visible.{spot_of, free_of, known_by}
+use Rattle.register_expressions.specs.code_scope.Visible.{spot_of, free_words_of, known_by}
 use Rattle.expr_uncompute.specs.Code.{value_cells}
-use Rattle.expr_uncompute.specs.Promises.{ValueLaw}
+use Rattle.expr_uncompute.specs.Promises.{ExpressionLaw}
 use Rattle.std.specs.Prelude.{◌≤◌, ◌*◌, length}
-use Rattle.register_expressions.specs.Steps.{tokens}
+use Rattle.register_expressions.specs.Steps.{token_count}
 use Rattle.expr_uncompute.proofs.Bounds
 use Rattle.expr_uncompute.proofs.ForContracts.{value_law}
 use Rattle.expr_uncompute.proofs.values.value_piece.Goals as goal
@@ -15,16 +15,16 @@ pub returns-clause-code : goal.returns-clause-code
 returns-clause-code c = search rules
 
 pub returns-clause-law : goal.returns-clause-law
-returns-clause-law c = if_ok_law (λ p. ValueLaw (spot_of (known_by c.args.names.now))
-    (free_of (known_by c.args.names.now)) c.args.into (expression_of c.args.e.now) p.cells) _
-    (unmarked (value_cells (spot_of (known_by c.args.names.now)) (free_of (known_by c.args.names.now))
+returns-clause-law c = if_ok_law (λ p. ExpressionLaw (spot_of (known_by c.args.names.now))
+    (free_words_of (known_by c.args.names.now)) c.args.into (expression_of c.args.e.now) p.cells) _
+    (unmarked (value_cells (spot_of (known_by c.args.names.now)) (free_words_of (known_by c.args.names.now))
     (expression_of c.args.e.now) c.args.into)) (returns-clause-code c)
-    (value_law (spot_of (known_by c.args.names.now)) (free_of (known_by c.args.names.now)) c.args.into
+    (value_law (spot_of (known_by c.args.names.now)) (free_words_of (known_by c.args.names.now)) c.args.into
     (expression_of c.args.e.now) c.requires.register)
 
 pub returns-clause-size : goal.returns-clause-size
-returns-clause-size c = if_ok_law (λ p. length p.cells ≤ 58 * tokens (expression_of c.args.e.now)) _
-    (unmarked (value_cells (spot_of (known_by c.args.names.now)) (free_of (known_by c.args.names.now))
+returns-clause-size c = if_ok_law (λ p. length p.cells ≤ 58 * token_count (expression_of c.args.e.now)) _
+    (unmarked (value_cells (spot_of (known_by c.args.names.now)) (free_words_of (known_by c.args.names.now))
     (expression_of c.args.e.now) c.args.into)) (returns-clause-code c)
-    (Bounds.value_cells (spot_of (known_by c.args.names.now)) (free_of (known_by c.args.names.now))
+    (Bounds.value_cells (spot_of (known_by c.args.names.now)) (free_words_of (known_by c.args.names.now))
     (expression_of c.args.e.now) c.args.into)

@@ -1,7 +1,7 @@
 use Rattle.std.proofs.Common.{subst}
 use Rattle.std.specs.Prelude.{string_bytes}
 use Rattle.image_searches.specs.declared.moves.Step.{Step}
-use Rattle.image_searches.specs.Steps.{Goes}
+use Rattle.image_searches.specs.Steps.{ImageGoes}
 use Rattle.image_searches.proofs.Moving.{moved_on}
 use Rattle.image_searches.proofs.Listing.{listing_begins, listing_goes, listing_stops, listing_over}
 use Rattle.image_searches.proofs.lists.points.Goals as goal
@@ -14,14 +14,14 @@ pub loop-preserved : goal.loop-preserved
 loop-preserved g c =
     listing_goes c.args.way c.args.most c.loop.counter c.args.debugger.now c.loop.debugger c.go.new.debugger
     (string_bytes c.loop.text) (string_bytes c.go.new.text) c.loop-test.true c.loop.invariant
-    (subst (λ (s : Step). Goes c.args.way c.loop.debugger (string_bytes c.loop.text) (string_bytes c.go.new.text) s)
+    (subst (λ (s : Step). ImageGoes c.args.way c.loop.debugger (string_bytes c.loop.text) (string_bytes c.go.new.text) s)
     c.in-Gone.is c.go.ensures.goes) c.go.ensures.position
 
 pub returns-in-Stuck-clause-found : goal.returns-in-Stuck-clause-found
 returns-in-Stuck-clause-found g c =
     listing_stops c.args.way c.args.most c.loop.counter c.args.debugger.now c.loop.debugger c.go.new.debugger
     (string_bytes c.loop.text) (string_bytes c.go.new.text) c.loop-test.true c.loop.invariant
-    (subst (λ (s : Step). Goes c.args.way c.loop.debugger (string_bytes c.loop.text) (string_bytes c.go.new.text) s)
+    (subst (λ (s : Step). ImageGoes c.args.way c.loop.debugger (string_bytes c.loop.text) (string_bytes c.go.new.text) s)
     c.in-Stuck.is c.go.ensures.goes) c.go.ensures.position
 
 pub returns-in-Lost-clause-lost : goal.returns-in-Lost-clause-lost

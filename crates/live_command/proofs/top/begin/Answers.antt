@@ -1,12 +1,12 @@
 use Rattle.std.proofs.Common.{◌∙◌, ap, map}
 use Rattle.plan_serving.specs.Wanted.{file_of}
-use Rattle.live_command.specs.Beginnings.{begun, OfSource}
+use Rattle.live_command.specs.Beginnings.{session_begun, OfSource}
 use Rattle.live_command.proofs.Living.{unread_lives}
 use Rattle.live_command.proofs.top.begin.Goals as goal
 
 pub returns-in-Err-Unread-clause-session : goal.returns-in-Err-Unread-clause-session
 returns-in-Err-Unread-clause-session g c =
-    unread_lives (OfSource (begun c.args.beginning.now)) (map file_of c.deref.result.now) _
+    unread_lives (OfSource (session_begun c.args.beginning.now)) (map file_of c.deref.result.now) _
     (record { texts = g.S.Shelf.texts c.args.shelf.now; calls = g.S.Shelf.events c.args.shelf.now })
     (record { texts = g.S.Shelf.texts c.fetch.new.shelf; calls = g.S.Shelf.events c.fetch.new.shelf })
     (record {

@@ -1,6 +1,6 @@
 use Rattle.std.proofs.Common.{refl}
 use Rattle.std.specs.Prelude.{string_bytes}
-use Rattle.live_talks.specs.Limits.{held}
+use Rattle.live_talks.specs.Limits.{held_run}
 use Rattle.live_images.specs.Replies.{carried}
 use Rattle.live_images.specs.Sessions.{held_in}
 use Rattle.live_images.proofs.Answering.{answer_said, answer_roomless}
@@ -9,7 +9,7 @@ use Rattle.live_images.proofs.replying.say_carried.Goals as goal
 pub returns-in-Ok : goal.returns-in-Ok
 returns-in-Ok g c =
     answer_said (carried c.args.run.now.limit c.args.command c.args.run.now.debugger) (held_in c.args.run.now)
-    (held c.tell_carried.new.debugger c.args.run.now.limit) (string_bytes c.in-Ok.text) c.as_str.result.now
+    (held_run c.tell_carried.new.debugger c.args.run.now.limit) (string_bytes c.in-Ok.text) c.as_str.result.now
     (record { bytes = g.K.Sink.written c.args.out.now; puts = g.K.Sink.puts c.args.out.now })
     (record { bytes = g.K.Sink.written c.say_text.new.out; puts = g.K.Sink.puts c.say_text.new.out }) c.say_text.result
     c.in-Ok.ensures.reply c.tell_carried.ensures.leads refl c.as_str.ensures.value c.say_text.ensures
@@ -17,5 +17,5 @@ returns-in-Ok g c =
 pub returns-in-Err : goal.returns-in-Err
 returns-in-Err g c =
     answer_roomless (carried c.args.run.now.limit c.args.command c.args.run.now.debugger) (held_in c.args.run.now)
-    (held c.tell_carried.new.debugger c.args.run.now.limit)
+    (held_run c.tell_carried.new.debugger c.args.run.now.limit)
     (record { bytes = g.K.Sink.written c.args.out.now; puts = g.K.Sink.puts c.args.out.now })

@@ -4,12 +4,12 @@ use Rattle.live_port.specs.Heard.{Line, Long, Lost, heard}
 use Rattle.live_talks.specs.Limits.{WithLimits}
 use Rattle.live_talks.proofs.Putting.{long_said, lost_said, heard_goes, over_goes, failed_goes}
 use Rattle.live_images.proofs.Answering.{PutsToHeard}
-use Rattle.live_images.specs.Sessions.{RepliesOf, held_in}
+use Rattle.live_images.specs.Sessions.{ImageRepliesOf, held_in}
 use Rattle.live_images.proofs.session.exchange.Goals as goal
 
 pub returns-in-Line : goal.returns-in-Line
 returns-in-Line g c =
-    heard_goes (WithLimits RepliesOf) (held_in c.args.run.now) (held_in c.answer_line.new.run) (record {
+    heard_goes (WithLimits ImageRepliesOf) (held_in c.args.run.now) (held_in c.answer_line.new.run) (record {
       lines = g.A.Asker.lines c.args.asker.now;
       heard = g.A.Asker.events c.args.asker.now;
       out = record { bytes = g.K.Sink.written c.args.out.now; puts = g.K.Sink.puts c.args.out.now };
@@ -25,7 +25,7 @@ returns-in-Line g c =
 
 pub returns-in-Long : goal.returns-in-Long
 returns-in-Long g c =
-    heard_goes (WithLimits RepliesOf) (held_in c.args.run.now) (held_in c.args.run.now) (record {
+    heard_goes (WithLimits ImageRepliesOf) (held_in c.args.run.now) (held_in c.args.run.now) (record {
       lines = g.A.Asker.lines c.args.asker.now;
       heard = g.A.Asker.events c.args.asker.now;
       out = record { bytes = g.K.Sink.written c.args.out.now; puts = g.K.Sink.puts c.args.out.now };
@@ -33,7 +33,7 @@ returns-in-Long g c =
     (record { bytes = g.K.Sink.written c.say_end.new.out; puts = g.K.Sink.puts c.say_end.new.out }) c.say_end.result
     (heard c.next.result) Long ⊥
     (ap heard c.in-Long.is) c.next.ensures.told c.next.ensures.noted (λ no. absurd no)
-    (long_said (WithLimits RepliesOf) (held_in c.args.run.now) (record {
+    (long_said (WithLimits ImageRepliesOf) (held_in c.args.run.now) (record {
       bytes = g.K.Sink.written c.args.out.now;
       puts = g.K.Sink.puts c.args.out.now;
     })
@@ -42,7 +42,7 @@ returns-in-Long g c =
 
 pub returns-in-Lost : goal.returns-in-Lost
 returns-in-Lost g c =
-    heard_goes (WithLimits RepliesOf) (held_in c.args.run.now) (held_in c.args.run.now) (record {
+    heard_goes (WithLimits ImageRepliesOf) (held_in c.args.run.now) (held_in c.args.run.now) (record {
       lines = g.A.Asker.lines c.args.asker.now;
       heard = g.A.Asker.events c.args.asker.now;
       out = record { bytes = g.K.Sink.written c.args.out.now; puts = g.K.Sink.puts c.args.out.now };
@@ -50,7 +50,7 @@ returns-in-Lost g c =
     (record { bytes = g.K.Sink.written c.say_end-in-Lost.new.out; puts = g.K.Sink.puts c.say_end-in-Lost.new.out })
     c.say_end-in-Lost.result (heard c.next.result) Lost ⊥
     (ap heard c.in-Lost.is) c.next.ensures.told c.next.ensures.noted (λ no. absurd no)
-    (lost_said (WithLimits RepliesOf) (held_in c.args.run.now) (record {
+    (lost_said (WithLimits ImageRepliesOf) (held_in c.args.run.now) (record {
       bytes = g.K.Sink.written c.args.out.now;
       puts = g.K.Sink.puts c.args.out.now;
     })
@@ -59,7 +59,7 @@ returns-in-Lost g c =
 
 pub returns-in-Over : goal.returns-in-Over
 returns-in-Over g c =
-    over_goes (WithLimits RepliesOf) (held_in c.args.run.now) (record {
+    over_goes (WithLimits ImageRepliesOf) (held_in c.args.run.now) (record {
       lines = g.A.Asker.lines c.args.asker.now;
       heard = g.A.Asker.events c.args.asker.now;
       out = record { bytes = g.K.Sink.written c.args.out.now; puts = g.K.Sink.puts c.args.out.now };
@@ -68,7 +68,7 @@ returns-in-Over g c =
 
 pub returns-in-Failed : goal.returns-in-Failed
 returns-in-Failed g c =
-    failed_goes (WithLimits RepliesOf) (held_in c.args.run.now) (record {
+    failed_goes (WithLimits ImageRepliesOf) (held_in c.args.run.now) (record {
       lines = g.A.Asker.lines c.args.asker.now;
       heard = g.A.Asker.events c.args.asker.now;
       out = record { bytes = g.K.Sink.written c.args.out.now; puts = g.K.Sink.puts c.args.out.now };

@@ -1,14 +1,14 @@
 use Rattle.std.proofs.Common.{subst, ℕ}
 use Rattle.std.specs.Prelude.{Option}
 use Rattle.live_talks.specs.Limits.{WithLimits}
-use Rattle.live_talks.specs.Serving.{Goes}
-use Rattle.live_images.specs.Sessions.{RepliesOf, held_in}
+use Rattle.live_talks.specs.Serving.{Serves}
+use Rattle.live_images.specs.Sessions.{ImageRepliesOf, held_in}
 use Rattle.live_talks.proofs.Putting.{one_more, over, enough}
 use Rattle.live_images.proofs.session.serve.Goals as goal
 
 pub loop-preserved : goal.loop-preserved
 loop-preserved g c =
-    one_more (WithLimits RepliesOf) c.loop.counter (held_in c.args.run.now) (held_in c.loop.run)
+    one_more (WithLimits ImageRepliesOf) c.loop.counter (held_in c.args.run.now) (held_in c.loop.run)
     (held_in c.exchange.new.run)
     (record {
       lines = g.A.Asker.lines c.args.asker.now;
@@ -25,7 +25,7 @@ loop-preserved g c =
       heard = g.A.Asker.events c.exchange.new.asker;
       out = record { bytes = g.K.Sink.written c.exchange.new.out; puts = g.K.Sink.puts c.exchange.new.out };
     }) c.loop.invariant
-    (subst (λ (r : Option ℕ). Goes (WithLimits RepliesOf) (held_in c.loop.run) (held_in c.exchange.new.run) (record {
+    (subst (λ (r : Option ℕ). Serves (WithLimits ImageRepliesOf) (held_in c.loop.run) (held_in c.exchange.new.run) (record {
       lines = g.A.Asker.lines c.loop.asker;
       heard = g.A.Asker.events c.loop.asker;
       out = record { bytes = g.K.Sink.written c.loop.out; puts = g.K.Sink.puts c.loop.out };
@@ -38,7 +38,7 @@ loop-preserved g c =
 
 pub returns-in-Some : goal.returns-in-Some
 returns-in-Some g c =
-    over (WithLimits RepliesOf) c.loop.counter (held_in c.args.run.now) (held_in c.loop.run)
+    over (WithLimits ImageRepliesOf) c.loop.counter (held_in c.args.run.now) (held_in c.loop.run)
     (record {
       lines = g.A.Asker.lines c.args.asker.now;
       heard = g.A.Asker.events c.args.asker.now;
@@ -54,7 +54,7 @@ returns-in-Some g c =
       heard = g.A.Asker.events c.exchange.new.asker;
       out = record { bytes = g.K.Sink.written c.exchange.new.out; puts = g.K.Sink.puts c.exchange.new.out };
     }) c.in-Some.status c.loop.invariant
-    (subst (λ (r : Option ℕ). Goes (WithLimits RepliesOf) (held_in c.loop.run) (held_in c.exchange.new.run) (record {
+    (subst (λ (r : Option ℕ). Serves (WithLimits ImageRepliesOf) (held_in c.loop.run) (held_in c.exchange.new.run) (record {
       lines = g.A.Asker.lines c.loop.asker;
       heard = g.A.Asker.events c.loop.asker;
       out = record { bytes = g.K.Sink.written c.loop.out; puts = g.K.Sink.puts c.loop.out };
@@ -67,7 +67,7 @@ returns-in-Some g c =
 
 pub returns : goal.returns
 returns g c =
-    enough (WithLimits RepliesOf) c.loop.counter (held_in c.args.run.now) (held_in c.loop.run)
+    enough (WithLimits ImageRepliesOf) c.loop.counter (held_in c.args.run.now) (held_in c.loop.run)
     (record {
       lines = g.A.Asker.lines c.args.asker.now;
       heard = g.A.Asker.events c.args.asker.now;

@@ -1,12 +1,12 @@
 use Rattle.live_talks.specs.Limits.{WithLimits}
 use Rattle.live_talks.specs.Sessions.{Exchanges}
-use Rattle.live_images.specs.Sessions.{RepliesOf, held_in}
+use Rattle.live_images.specs.Sessions.{ImageRepliesOf, held_in}
 use Rattle.live_images.proofs.session.serve.Given as goal
 
 -- so many lines were heard and answered
 abbrev pub invariant-loop : goal.invariant-loop
 invariant-loop g l =
-    Exchanges (WithLimits RepliesOf) l.counter (held_in l.fn.run) (held_in l.run)
+    Exchanges (WithLimits ImageRepliesOf) l.counter (held_in l.fn.run) (held_in l.run)
     (record {
       lines = g.A.Asker.lines l.fn.asker;
       heard = g.A.Asker.events l.fn.asker;

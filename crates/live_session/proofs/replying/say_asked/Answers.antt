@@ -3,7 +3,7 @@ use Rattle.pisa_scripts.specs.Lines.{pieces}
 use Rattle.source_debugger.specs.meaning_points.rpp_tree.Views.{source_of}
 use Rattle.source_debugger.specs.Failures.{account_of}
 use Rattle.live_talks.proofs.Putting.{text_unsaid}
-use Rattle.live_session.specs.Replies.{moves_of}
+use Rattle.live_session.specs.Replies.{asked_moves}
 use Rattle.live_session.specs.Serving.{RepliesMoves}
 use Rattle.live_session.proofs.Answering.{words_said}
 use Rattle.live_session.proofs.replying.say_asked.Goals as goal
@@ -21,7 +21,7 @@ returns-in-Ok-clause-puts g c =
 pub returns-in-Err-clause-puts : goal.returns-in-Err-clause-puts
 returns-in-Err-clause-puts g c =
     text_unsaid (RepliesMoves (source_of c.args.debugger.now.program) (account_of c.args.debugger.now) c.args.limit
-    (moves_of (pieces 32 c.args.line.now)) (pieces 32 c.args.line.now) c.args.debugger.now.position) false
+    (asked_moves (pieces 32 c.args.line.now)) (pieces 32 c.args.line.now) c.args.debugger.now.position) false
     c.args.debugger.now.position c.args.debugger.now.position
     (record { bytes = g.K.Sink.written c.args.out.now; puts = g.K.Sink.puts c.args.out.now })
     (record { bytes = g.K.Sink.written c.say_end.new.out; puts = g.K.Sink.puts c.say_end.new.out }) c.say_end.result

@@ -1,7 +1,7 @@
 use Rattle.std.proofs.Common.{None, Some}
 use Rattle.source_debugger.specs.meaning_points.rpp_tree.Views.{source_of}
 use Rattle.source_debugger.specs.Failures.{account_of}
-use Rattle.live_talks.specs.Limits.{held}
+use Rattle.live_talks.specs.Limits.{held_run}
 use Rattle.live_talks.proofs.Putting.{one_more, over, enough}
 use Rattle.live_session.specs.Sessions.{RepliesOf}
 use Rattle.live_session.proofs.Along.{goes_along}
@@ -12,8 +12,8 @@ pub loop-preserved : goal.loop-preserved
 loop-preserved g c = record {
   exchanges = one_more (RepliesOf (source_of c.args.debugger.now.program) (account_of c.args.debugger.now))
       c.loop.counter
-      (held c.args.debugger.now.position None) (held c.loop.debugger.position c.loop.limit)
-      (held c.exchange.new.debugger.position c.exchange.new.limit)
+      (held_run c.args.debugger.now.position None) (held_run c.loop.debugger.position c.loop.limit)
+      (held_run c.exchange.new.debugger.position c.exchange.new.limit)
       (record {
         lines = g.A.Asker.lines c.args.asker.now;
         heard = g.A.Asker.events c.args.asker.now;
@@ -30,8 +30,8 @@ loop-preserved g c = record {
         out = record { bytes = g.K.Sink.written c.exchange.new.out; puts = g.K.Sink.puts c.exchange.new.out };
       })
       c.loop.invariant.exchanges
-      (goes_along c.args.debugger.now c.loop.debugger (held c.loop.debugger.position c.loop.limit)
-      (held c.exchange.new.debugger.position c.exchange.new.limit) (record {
+      (goes_along c.args.debugger.now c.loop.debugger (held_run c.loop.debugger.position c.loop.limit)
+      (held_run c.exchange.new.debugger.position c.exchange.new.limit) (record {
         lines = g.A.Asker.lines c.loop.asker;
         heard = g.A.Asker.events c.loop.asker;
         out = record { bytes = g.K.Sink.written c.loop.out; puts = g.K.Sink.puts c.loop.out };
@@ -49,7 +49,7 @@ loop-preserved g c = record {
 pub returns-in-Some : goal.returns-in-Some
 returns-in-Some g c =
     over (RepliesOf (source_of c.args.debugger.now.program) (account_of c.args.debugger.now)) c.loop.counter
-    (held c.args.debugger.now.position None) (held c.loop.debugger.position c.loop.limit)
+    (held_run c.args.debugger.now.position None) (held_run c.loop.debugger.position c.loop.limit)
     (record {
       lines = g.A.Asker.lines c.args.asker.now;
       heard = g.A.Asker.events c.args.asker.now;
@@ -66,8 +66,8 @@ returns-in-Some g c =
       out = record { bytes = g.K.Sink.written c.exchange.new.out; puts = g.K.Sink.puts c.exchange.new.out };
     })
     c.in-Some.status c.loop.invariant.exchanges
-    (goes_along c.args.debugger.now c.loop.debugger (held c.loop.debugger.position c.loop.limit)
-    (held c.exchange.new.debugger.position c.exchange.new.limit) (record {
+    (goes_along c.args.debugger.now c.loop.debugger (held_run c.loop.debugger.position c.loop.limit)
+    (held_run c.exchange.new.debugger.position c.exchange.new.limit) (record {
       lines = g.A.Asker.lines c.loop.asker;
       heard = g.A.Asker.events c.loop.asker;
       out = record { bytes = g.K.Sink.written c.loop.out; puts = g.K.Sink.puts c.loop.out };
@@ -82,7 +82,7 @@ returns-in-Some g c =
 pub returns : goal.returns
 returns g c =
     enough (RepliesOf (source_of c.args.debugger.now.program) (account_of c.args.debugger.now)) c.loop.counter
-    (held c.args.debugger.now.position None) (held c.loop.debugger.position c.loop.limit)
+    (held_run c.args.debugger.now.position None) (held_run c.loop.debugger.position c.loop.limit)
     (record {
       lines = g.A.Asker.lines c.args.asker.now;
       heard = g.A.Asker.events c.args.asker.now;

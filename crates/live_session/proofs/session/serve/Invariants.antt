@@ -3,7 +3,7 @@ use Rattle.source_debugger.specs.meaning_points.rpp_tree.Views.{source_of}
 use Rattle.source_debugger.specs.Failures.{account_of}
 use Rattle.live_searches.specs.Steps.{IsSameRun}
 use Rattle.live_talks.specs.Sessions.{Exchanges}
-use Rattle.live_talks.specs.Limits.{held}
+use Rattle.live_talks.specs.Limits.{held_run}
 use Rattle.live_session.specs.Sessions.{RepliesOf}
 use Rattle.live_session.proofs.session.serve.Given as goal
 
@@ -11,8 +11,8 @@ use Rattle.live_session.proofs.session.serve.Given as goal
 abbrev pub invariant-loop : goal.invariant-loop
 invariant-loop g l = record {
   exchanges : Exchanges (RepliesOf (source_of l.fn.debugger.program) (account_of l.fn.debugger)) l.counter
-      (held l.fn.debugger.position None)
-      (held l.debugger.position l.limit)
+      (held_run l.fn.debugger.position None)
+      (held_run l.debugger.position l.limit)
       (record {
         lines = g.A.Asker.lines l.fn.asker;
         heard = g.A.Asker.events l.fn.asker;

@@ -2,17 +2,17 @@ use Rattle.std.proofs.Common.{◌∙◌, sym, ap, List, ℕ}
 use Rattle.std.specs.Prelude.{option_map}
 use Rattle.source_debugger.specs.meaning_points.rpp_tree.Views.{source_of}
 use Rattle.source_debugger.specs.Failures.{account_of}
-use Rattle.live_requests.specs.Requests.{name_of}
-use Rattle.live_searches.specs.Values.{value_at}
+use Rattle.live_requests.specs.Requests.{request_name}
+use Rattle.live_searches.specs.Values.{variable_value_at}
 use Rattle.live_session.proofs.Looks.{value_told}
 use Rattle.live_session.proofs.telling.tell_name.Goals as goal
 
 pub returns-clause-told : goal.returns-clause-told
 returns-clause-told c =
     value_told c.args.debugger.now c.tell_value.new.debugger
-    (value_at (source_of c.args.debugger.now.program) (account_of c.args.debugger.now).trail
-    (name_of c.args.line.now) c.args.debugger.now.position)
+    (variable_value_at (source_of c.args.debugger.now.program) (account_of c.args.debugger.now).trail
+    (request_name c.args.line.now) c.args.debugger.now.position)
     (option_map (λ line. line.items) c.in_ok-value.value) c.in_ok-reply.reply.items c.tell_value.ensures.stays
-    (ap (λ (name : List ℕ). value_at (source_of c.args.debugger.now.program) (account_of c.args.debugger.now).trail
+    (ap (λ (name : List ℕ). variable_value_at (source_of c.args.debugger.now.program) (account_of c.args.debugger.now).trail
     name c.args.debugger.now.position) (sym c.name_in.ensures) ∙ c.in_ok-value.ensures.told)
     c.in_ok-reply.ensures

@@ -1,6 +1,6 @@
 use Rattle.std.specs.Prelude.{◌+◌, ◌*◌}
 use Rattle.rpp_tree.specs.Views.{lvalue_of}
-use Rattle.expr_uncompute.specs.code_scope.Visible.{spot_of, free_of, known_in}
+use Rattle.expr_uncompute.specs.code_scope.Visible.{spot_of, free_words_of, known_in}
 use Rattle.expr_uncompute.specs.Steps.{place_tokens}
 use Rattle.object_codegen.specs.Code.{copy_mid}
 use Rattle.object_codegen.proofs.Bounds.{copy_cells_are}
@@ -8,7 +8,7 @@ use Rattle.object_codegen.proofs.Clauses.{copy_returns, size_returns, no_more, c
 use Rattle.object_codegen.proofs.calls.copy_code.Goals as goal
 
 pub returns-clause-law : goal.returns-clause-law
-returns-clause-law c = copy_returns (spot_of (known_in c.args.scope.now)) (free_of (known_in c.args.scope.now))
+returns-clause-law c = copy_returns (spot_of (known_in c.args.scope.now)) (free_words_of (known_in c.args.scope.now))
     (lvalue_of c.args.source.now) (lvalue_of c.args.target.now) _ c.places_around.result c.in_ok-middle.ensures
     c.places_around.ensures.law
 

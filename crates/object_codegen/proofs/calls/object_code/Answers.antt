@@ -1,7 +1,7 @@
 use Rattle.std.proofs.Common.{[], ◌∷◌, arith}
 use Rattle.std.specs.Prelude.{◌+◌, ◌*◌}
 use Rattle.rpp_tree.specs.Views.{lvalue_of}
-use Rattle.expr_uncompute.specs.code_scope.Visible.{spot_of, free_of, known_in}
+use Rattle.expr_uncompute.specs.code_scope.Visible.{spot_of, free_words_of, known_in}
 use Rattle.expr_uncompute.specs.register_expressions.Code.{xori}
 use Rattle.expr_uncompute.specs.Steps.{place_tokens}
 use Rattle.object_codegen.specs.declared.shape.Shape.TheVariants.{Fixed}
@@ -11,7 +11,7 @@ use Rattle.object_codegen.proofs.Clauses.{object_returns, object_length, size_re
 use Rattle.object_codegen.proofs.calls.object_code.Goals as goal
 
 pub returns-clause-law : goal.returns-clause-law
-returns-clause-law c = object_returns (spot_of (known_in c.args.scope.now)) (free_of (known_in c.args.scope.now))
+returns-clause-law c = object_returns (spot_of (known_in c.args.scope.now)) (free_words_of (known_in c.args.scope.now))
     c.args.table c.args.fields c.args.order (lvalue_of c.args.place.now) _ _ c.place_around.result (omega arith)
     (omega arith) (omega arith) c.in_ok-orders.ensures c.in_ok-middle.ensures c.place_around.ensures.law
 

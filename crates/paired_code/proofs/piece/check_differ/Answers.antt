@@ -1,6 +1,6 @@
 use Rattle.std.proofs.Common.{rules, sym, subst}
 use Rattle.paired_code.specs.Layout.{Differ}
-use Rattle.paired_code.specs.Laws.{TestLaw}
+use Rattle.paired_code.specs.Laws.{BranchTestLaw}
 use Rattle.paired_code.specs.Code.{Code}
 use Rattle.paired_code.proofs.MoreLaws.{test_law}
 use Rattle.paired_code.proofs.piece.check_differ.Goals as goal
@@ -10,5 +10,5 @@ returns-clause-code c = search rules
 
 pub returns-clause-law : goal.returns-clause-law
 returns-clause-law c =
-    subst (λ (p : Code). TestLaw (Differ c.args.one c.args.other) c.args.code p.cells) (sym (returns-clause-code c))
+    subst (λ (p : Code). BranchTestLaw (Differ c.args.one c.args.other) c.args.code p.cells) (sym (returns-clause-code c))
     (test_law (Differ c.args.one c.args.other) c.args.code)

@@ -4,14 +4,14 @@ use Rattle.paired_code.specs.declared.part.Symbol.TheVariants.{Own}
 use Rattle.paired_code.specs.Laws.{PlainLaw}
 use Rattle.paired_code.specs.Code.{Code}
 use Rattle.paired_code.proofs.Small.{runs_single}
-use Rattle.paired_code.specs.Fit.{AllFit}
+use Rattle.paired_code.specs.Fit.{AllSymbolsFit}
 use Rattle.paired_code.proofs.Fits.{inner_single}
 use Rattle.code_conventions.proofs.pisa_isa_laws.Ranges.{imm_word}
 use Rattle.paired_code.proofs.piece.plain.Goals as goal
 
 pub sealed-requires-clause-fit : goal.sealed-requires-clause-fit
 sealed-requires-clause-fit c =
-    subst AllFit (sym (c.in_ok-push.ensures ∙ ap (λ (z : List Symbol). z ++ Own c.args.cell ∷ [])
+    subst AllSymbolsFit (sym (c.in_ok-push.ensures ∙ ap (λ (z : List Symbol). z ++ Own c.args.cell ∷ [])
     c.new-cells.ensures)) (inner_single c.args.cell c.requires.single c.requires.cell, tt)
 
 pub returns-clause-code : goal.returns-clause-code

@@ -1,6 +1,6 @@
 use Rattle.std.proofs.Common.{◌≡◌, ◌++◌, rules, arith, sym, subst}
 use Rattle.paired_code.specs.Laws.{SeqLaw}
-use Rattle.paired_code.specs.Fit.{AllFit}
+use Rattle.paired_code.specs.Fit.{AllSymbolsFit}
 use Rattle.paired_code.specs.Code.{Code, parts}
 use Rattle.paired_code.proofs.Contract.{seq_law}
 use Rattle.paired_code.proofs.Fits.{fit_append, seq_room, seq_within}
@@ -13,7 +13,7 @@ put_spans-requires c = seq_room _ _ _ _ _ _ _ c.in_ok-append.ensures
     c.len-front.ensures.count c.deref.ensures.value c.second.invariant.within
 
 pub sealed-requires-clause-fit : goal.sealed-requires-clause-fit
-sealed-requires-clause-fit c = subst AllFit (sym c.in_ok-append.ensures)
+sealed-requires-clause-fit c = subst AllSymbolsFit (sym c.in_ok-append.ensures)
     (fit_append _ _ c.first.invariant.fit c.second.invariant.fit)
 
 pub sealed-requires-clause-within : goal.sealed-requires-clause-within

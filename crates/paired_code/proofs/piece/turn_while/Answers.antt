@@ -1,7 +1,7 @@
 use Rattle.std.proofs.Common.{◌∙◌, ap, sym, subst, refl, arith, ◌≡◌, ◌+◌, ◌^◌, ◌++◌}
 use Rattle.paired_code.specs.Laws.{WhileLaw}
-use Rattle.paired_code.specs.Fit.{AllFit}
-use Rattle.paired_code.specs.Stored.{cells_in}
+use Rattle.paired_code.specs.Fit.{AllSymbolsFit}
+use Rattle.paired_code.specs.Stored.{symbols_in}
 use Rattle.paired_code.specs.Code.{Code, loop_code, parts}
 use Rattle.paired_code.proofs.MoreLaws.{while_law}
 use Rattle.paired_code.proofs.Fits.{fit_loop, loop_within, loop_room, room_at, two_marks, code_is}
@@ -10,7 +10,7 @@ use Rattle.paired_code.proofs.piece.turn_while.Goals as goal
 
 pub put_spans-requires : goal.put_spans-requires
 put_spans-requires c = room_at _ _ _ _ _ refl c.deref.ensures.value (loop_room c.args.flag (2 ^ 63)
-    (cells_in c.head.inside.cells) (cells_in c.tail.inside.cells) (cells_in c.in_ok-cells.cells) c.head.inside.marks.items
+    (symbols_in c.head.inside.cells) (symbols_in c.tail.inside.cells) (symbols_in c.in_ok-cells.cells) c.head.inside.marks.items
     c.tail.inside.marks.items c.in_ok-cells.ensures
     (omega (arith, c.len-size.ensures.few))
     c.head.invariant.within c.tail.invariant.within).0
@@ -18,13 +18,13 @@ put_spans-requires c = room_at _ _ _ _ _ refl c.deref.ensures.value (loop_room c
 pub put_spans-requires-2 : goal.put_spans-requires-2
 put_spans-requires-2 c = room_at _ _ _ _ _ (ap (λ n. 5 + n) c.len-tail_size.ensures.count)
     c.deref-2.ensures.value (loop_room c.args.flag (2 ^ 63)
-    (cells_in c.head.inside.cells) (cells_in c.tail.inside.cells) (cells_in c.in_ok-cells.cells) c.head.inside.marks.items
+    (symbols_in c.head.inside.cells) (symbols_in c.tail.inside.cells) (symbols_in c.in_ok-cells.cells) c.head.inside.marks.items
     c.tail.inside.marks.items c.in_ok-cells.ensures
     (omega (arith, c.len-size.ensures.few))
     c.head.invariant.within c.tail.invariant.within).1
 
 pub sealed-requires-clause-fit : goal.sealed-requires-clause-fit
-sealed-requires-clause-fit c = subst AllFit (sym c.in_ok-cells.ensures)
+sealed-requires-clause-fit c = subst AllSymbolsFit (sym c.in_ok-cells.ensures)
     (fit_loop _ _ _ c.requires c.head.invariant.fit c.tail.invariant.fit)
 
 pub sealed-requires-clause-within : goal.sealed-requires-clause-within
@@ -41,7 +41,7 @@ returns-clause-code c = c.sealed.ensures
     c.in_ok-put_spans-2.ensures c.deref-2.ensures.value
     (ap (λ n. 5 + n) c.len-tail_size.ensures.count))
     ∙ ap (λ (z : Code). loop_code c.args.flag z (record {
-      cells = cells_in c.tail.inside.cells;
+      cells = symbols_in c.tail.inside.cells;
       marks = c.tail.inside.marks.items;
     })) c.head.view_is
     ∙ ap (λ (z : Code). loop_code c.args.flag c.args.head z) c.tail.view_is

@@ -1,10 +1,10 @@
 use Rattle.std.proofs.Common.{rules, ◌≡◌, ◌∙◌, sym, ap, refl, arith, ◌+◌, ◌<◌, Some, take, length, ℤ, w64, SFits}
 use Rattle.std.specs.List.{slice_set}
 use Rattle.std.proofs.lemmas.Int.{to_z-of_z}
-use Rattle.pisa_isa.specs.Machine.{state_of, fetch}
+use Rattle.pisa_isa.specs.Machine.{core_state, fetch}
 use Rattle.pisa_isa.specs.Runs.{steps}
-use Rattle.pisa_machine.specs.Told.{place_of}
-use Rattle.pisa_machine.specs.Ways.{state_at}
+use Rattle.pisa_machine.specs.Told.{code_address}
+use Rattle.pisa_machine.specs.Ways.{state_with}
 use Rattle.pisa_machine.proofs.Legs.{one_more_at}
 use Rattle.pisa_machine.proofs.Watched.{noted_more}
 use Rattle.pisa_machine.proofs.noting.note_one_way.Goals as goal
@@ -15,11 +15,11 @@ returns-in-Turns-clause-makes g c =
     let fits : SFits w64 c.loop-made.way.pc = search rules in
     let found : fetch c.args.code.now c.loop-made.way.pc ≡ Some c.cell_at-cell.result.now =
     ap (fetch c.args.code.now) (sym (to_z-of_z w64 c.loop-made.way.pc fits)) ∙ c.cell_at-cell.ensures.found in
-    let here = state_at c.loop-made.way.pc c.loop-made.way.br c.args.back c.loop-made.core.regs words in
-    one_more_at c.args.code.now c.loop-made.made (state_of c.args.core.now (g.C.Cells.words c.args.cells.now)) here _
+    let here = state_with c.loop-made.way.pc c.loop-made.way.br c.args.back c.loop-made.core.regs words in
+    one_more_at c.args.code.now c.loop-made.made (core_state c.args.core.now (g.C.Cells.words c.args.cells.now)) here _
     c.cell_at-cell.result.now
     c.loop-made.invariant.reaches found c.in-Turns.ensures.stops
-    (ap (λ k. state_of k (g.C.Cells.words c.step_by.new.cells)) c.leave-in-Turns.ensures ∙ c.in-Turns.ensures.goes refl)
+    (ap (λ k. core_state k (g.C.Cells.words c.step_by.new.cells)) c.leave-in-Turns.ensures ∙ c.in-Turns.ensures.goes refl)
 
 pub returns-in-Turns-clause-notes : goal.returns-in-Turns-clause-notes
 returns-in-Turns-clause-notes g c =
@@ -27,18 +27,18 @@ returns-in-Turns-clause-notes g c =
     let fits : SFits w64 c.loop-made.way.pc = search rules in
     let found : fetch c.args.code.now c.loop-made.way.pc ≡ Some c.cell_at-cell.result.now =
     ap (fetch c.args.code.now) (sym (to_z-of_z w64 c.loop-made.way.pc fits)) ∙ c.cell_at-cell.ensures.found in
-    let first = state_of c.args.core.now (g.C.Cells.words c.args.cells.now) in
-    let here = state_at c.loop-made.way.pc c.loop-made.way.br c.args.back c.loop-made.core.regs words in
-    let there = state_of c.leave-in-Turns.new.core (g.C.Cells.words c.step_by.new.cells) in
+    let first = core_state c.args.core.now (g.C.Cells.words c.args.cells.now) in
+    let here = state_with c.loop-made.way.pc c.loop-made.way.br c.args.back c.loop-made.core.regs words in
+    let there = core_state c.leave-in-Turns.new.core (g.C.Cells.words c.step_by.new.cells) in
     let makes : steps c.args.code.now (c.loop-made.made + 1) first ≡ Some there =
     one_more_at c.args.code.now c.loop-made.made first here there c.cell_at-cell.result.now
     c.loop-made.invariant.reaches found c.in-Turns.ensures.stops
-    (ap (λ k. state_of k (g.C.Cells.words c.step_by.new.cells)) c.leave-in-Turns.ensures ∙ c.in-Turns.ensures.goes refl)
+    (ap (λ k. core_state k (g.C.Cells.words c.step_by.new.cells)) c.leave-in-Turns.ensures ∙ c.in-Turns.ensures.goes refl)
     in
     let less : c.loop-made.made < length c.loop-made.noted = omega arith in
     ap (take (c.loop-made.made + 1))
     (c.note.ensures ∙ ap (λ (pc : ℤ). slice_set c.loop-made.noted c.loop-made.made
-    (record { place = place_of pc; back = c.args.back })) (to_z-of_z w64 c.loop-made.way.pc fits))
+    (record { place = code_address pc; back = c.args.back })) (to_z-of_z w64 c.loop-made.way.pc fits))
     ∙ noted_more c.args.code.now c.loop-made.made first here there c.loop-made.noted c.loop-made.invariant.reaches makes
     c.loop-made.invariant.notes less
 
@@ -48,9 +48,9 @@ loop-made-preserved g c =
     let fits : SFits w64 c.loop-made.way.pc = search rules in
     let found : fetch c.args.code.now c.loop-made.way.pc ≡ Some c.cell_at-cell.result.now =
     ap (fetch c.args.code.now) (sym (to_z-of_z w64 c.loop-made.way.pc fits)) ∙ c.cell_at-cell.ensures.found in
-    let first = state_of c.args.core.now (g.C.Cells.words c.args.cells.now) in
-    let here = state_at c.loop-made.way.pc c.loop-made.way.br c.args.back c.loop-made.core.regs words in
-    let there = state_at c.step_by.new.way.pc c.step_by.new.way.br c.args.back c.step_by.new.regs
+    let first = core_state c.args.core.now (g.C.Cells.words c.args.cells.now) in
+    let here = state_with c.loop-made.way.pc c.loop-made.way.br c.args.back c.loop-made.core.regs words in
+    let there = state_with c.step_by.new.way.pc c.step_by.new.way.br c.args.back c.step_by.new.regs
     (g.C.Cells.words c.step_by.new.cells) in
     let makes : steps c.args.code.now (c.loop-made.made + 1) first ≡ Some there =
     one_more_at c.args.code.now c.loop-made.made first here there c.cell_at-cell.result.now
@@ -60,7 +60,7 @@ loop-made-preserved g c =
       reaches = makes;
       notes = ap (take (c.loop-made.made + 1))
           (c.note.ensures ∙ ap (λ (pc : ℤ). slice_set c.loop-made.noted c.loop-made.made
-          (record { place = place_of pc; back = c.args.back })) (to_z-of_z w64 c.loop-made.way.pc fits))
+          (record { place = code_address pc; back = c.args.back })) (to_z-of_z w64 c.loop-made.way.pc fits))
           ∙ noted_more c.args.code.now c.loop-made.made first here there c.loop-made.noted c.loop-made.invariant.reaches
           makes c.loop-made.invariant.notes less;
       counter = grind (arith, c.tick.ensures, c.loop-made.invariant.counter);

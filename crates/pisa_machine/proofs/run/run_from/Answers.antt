@@ -1,15 +1,15 @@
 use Rattle.std.proofs.Common.{rules, ◌≡◌, ◌∙◌, sym, ap, refl, ◌+◌, ◌-◌, ◌<◌, arith, Some, IsSome, w64, SFits}
 use Rattle.std.proofs.lemmas.Int.{to_z-of_z}
-use Rattle.pisa_isa.specs.Machine.{state_of, stop, fetch}
+use Rattle.pisa_isa.specs.Machine.{core_state, stop, fetch}
 use Rattle.pisa_isa.specs.Runs.{stop_at_bound}
 use Rattle.pisa_machine.proofs.Legs.{end_of, more, ran, ran_to_stop}
 use Rattle.pisa_machine.proofs.run.run_from.Goals as goal
 
 pub returns-in-Some-clause-runs : goal.returns-in-Some-clause-runs
 returns-in-Some-clause-runs g c =
-    let first = state_of c.args.core.now (g.C.Cells.words c.args.cells.now) in
-    let here = state_of c.loop-made.core (g.C.Cells.words c.loop-made.cells) in
-    let there = state_of c.run_leg-leg.new.core (g.C.Cells.words c.run_leg-leg.new.cells) in
+    let first = core_state c.args.core.now (g.C.Cells.words c.args.cells.now) in
+    let here = core_state c.loop-made.core (g.C.Cells.words c.loop-made.cells) in
+    let there = core_state c.run_leg-leg.new.core (g.C.Cells.words c.run_leg-leg.new.cells) in
     let leg = c.run_leg-leg.ensures in
     let reaches = more c.args.code.now c.loop-made.made c.run_leg-leg.result.made first here there
     c.loop-made.invariant.reaches leg.makes in
@@ -24,9 +24,9 @@ returns-in-Some-clause-runs g c =
 
 pub loop-made-preserved : goal.loop-made-preserved
 loop-made-preserved g c =
-    let first = state_of c.args.core.now (g.C.Cells.words c.args.cells.now) in
-    let here = state_of c.loop-made.core (g.C.Cells.words c.loop-made.cells) in
-    let there = state_of c.run_leg-leg.new.core (g.C.Cells.words c.run_leg-leg.new.cells) in
+    let first = core_state c.args.core.now (g.C.Cells.words c.args.cells.now) in
+    let here = core_state c.loop-made.core (g.C.Cells.words c.loop-made.cells) in
+    let there = core_state c.run_leg-leg.new.core (g.C.Cells.words c.run_leg-leg.new.cells) in
     record {
       reaches = more c.args.code.now c.loop-made.made c.run_leg-leg.result.made first here there
           c.loop-made.invariant.reaches c.run_leg-leg.ensures.makes;
@@ -36,8 +36,8 @@ loop-made-preserved g c =
 
 pub returns-clause-runs : goal.returns-clause-runs
 returns-clause-runs g c =
-    let first = state_of c.args.core.now (g.C.Cells.words c.args.cells.now) in
-    let here = state_of c.loop-made.core (g.C.Cells.words c.loop-made.cells) in
+    let first = core_state c.args.core.now (g.C.Cells.words c.args.cells.now) in
+    let here = core_state c.loop-made.core (g.C.Cells.words c.loop-made.cells) in
     let fits : SFits w64 c.loop-made.core.pc = search rules in
     let is : c.stop_at_bound.result ≡ stop_at_bound (fetch c.args.code.now c.loop-made.core.pc) c.loop-made.core.pc =
     c.stop_at_bound.ensures ∙ ap (λ pc. stop_at_bound (fetch c.args.code.now pc) pc)

@@ -1,13 +1,13 @@
 use Rattle.std.proofs.Common.{◌≡◌, ◌≤◌, ◌+◌, ◌-◌, Some}
-use Rattle.pisa_isa.specs.Machine.{state_of}
+use Rattle.pisa_isa.specs.Machine.{core_state}
 use Rattle.pisa_isa.specs.Runs.{steps}
 use Rattle.pisa_machine.proofs.run.run_from.Given as goal
 
 -- the steps so far led here, and are counted
 abbrev pub invariant-loop-made : goal.invariant-loop-made
 invariant-loop-made g l = record {
-  reaches : steps l.code l.made (state_of l.initial.core (g.C.Cells.words l.initial.cells))
-      ≡ Some (state_of l.core (g.C.Cells.words l.cells));
+  reaches : steps l.code l.made (core_state l.initial.core (g.C.Cells.words l.initial.cells))
+      ≡ Some (core_state l.core (g.C.Cells.words l.cells));
   counter : l.steps ≡ l.initial.steps + l.made;
   within : l.made ≤ l.bound;
 }

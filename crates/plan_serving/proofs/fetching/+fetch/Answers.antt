@@ -1,6 +1,6 @@
 use Rattle.std.proofs.Common.{◌≡◌, ◌∙◌, ◌∷◌, map, IfOk, subst, ℕ, List, Ok, Err, Vec}
 use Rattle.std.specs.Prelude.{Result}
-use Rattle.command_plan.specs.rpp_ports.Memory.{text_of}
+use Rattle.command_plan.specs.rpp_ports.Memory.{file_text}
 use Rattle.command_plan.specs.rpp_ports.declared.memory_shelf.Named.{Named}
 use Rattle.command_plan.specs.declared.plan.NoPlan.{NoPlan}
 use Rattle.command_plan.specs.Files.{Needed}
@@ -17,11 +17,11 @@ returns-in-Err-clause-asks g t c =
 
 placed : {A : Type 0} (r : Result (Vec Named A) NoPlan) (place bytes : List ℕ) (others : List Named)
     → IfOk r (λ read. map held_bytes read.items ≡ bytes ∷ map held_bytes others)
-    → IfOk r (λ read. IsBefore place bytes (text_of others) (text_of read.items))
-    → HasPlaces (text_of others) (97 ∷ place) (map held_bytes others)
-    → IfOk r (λ read. HasPlaces (text_of read.items) place (map held_bytes read.items))
+    → IfOk r (λ read. IsBefore place bytes (file_text others) (file_text read.items))
+    → HasPlaces (file_text others) (97 ∷ place) (map held_bytes others)
+    → IfOk r (λ read. HasPlaces (file_text read.items) place (map held_bytes read.items))
 placed (Ok read) place bytes others texts before has =
-    rw texts (place_more (text_of others) (text_of read.items) place bytes (map held_bytes others) before has)
+    rw texts (place_more (file_text others) (file_text read.items) place bytes (map held_bytes others) before has)
 placed (Err e) place bytes others texts before has = tt
 
 pub returns-in-Ok-fetch-clause-places : goal.returns-in-Ok-fetch-clause-places
@@ -29,7 +29,7 @@ returns-in-Ok-fetch-clause-places g t c =
     let others = c.in-Ok-fetch.others.items in
     placed c.with_first.result c.args.place.now c.in-Ok.bytes.items others c.with_first.ensures.texts
     c.with_first.ensures.held
-    (subst (λ (place : List ℕ). HasPlaces (text_of others) place (map held_bytes others))
+    (subst (λ (place : List ℕ). HasPlaces (file_text others) place (map held_bytes others))
     (c.as_str-2.ensures.value ∙ c.in_ok-next.ensures.ok) c.in-Ok-fetch.ensures.places)
 
 pub returns-in-Ok-fetch-clause-asks : goal.returns-in-Ok-fetch-clause-asks

@@ -5,7 +5,7 @@ use Rattle.command_plan.specs.rpp_ports.declared.shelf.ShelfFault.{ShelfFault}
 use Rattle.command_plan.specs.rpp_ports.declared.shelf.ShelfFault.TheVariants.{Failed}
 use Rattle.plan_serving.specs.Left.{Tries}
 use Rattle.plan_serving.specs.Finishes.{unwritten}
-use Rattle.command_plan.specs.Plans.{written}
+use Rattle.command_plan.specs.Plans.{written_file}
 use Rattle.plan_serving.specs.Outside.{Shelved, Printed, HasWritten, HasPut}
 use Rattle.plan_serving.proofs.Finished.{write_noted}
 use Rattle.plan_serving.proofs.finishing.write_file.Goals as goal
@@ -44,7 +44,7 @@ returns-in-Err-NoMemory-clause-fails g c =
     let new : Shelved = record { texts = g.S.Shelf.texts c.write.new.self; calls = g.S.Shelf.events c.write.new.self }
     in
     inr (record {
-      tried = inr (subst (λ (fault : ShelfFault). HasWritten (written c.args.writing.now) (Err fault) old new)
+      tried = inr (subst (λ (fault : ShelfFault). HasWritten (written_file c.args.writing.now) (Err fault) old new)
           c.in-Err-NoMemory.field-0-is
           (write_noted c.args.writing.now _ _ (Err c.in-Err-NoMemory.field-0) old new c.as_str-2.ensures.value
           c.deref.ensures.value c.in-Err-NoMemory.ensures.noted c.in-Err-NoMemory.ensures.left));
@@ -65,7 +65,7 @@ returns-in-Err-Failed-clause-fails g c =
     }
     in
     inl (record {
-      tried = subst (λ (fault : ShelfFault). HasWritten (written c.args.writing.now) (Err fault) old new)
+      tried = subst (λ (fault : ShelfFault). HasWritten (written_file c.args.writing.now) (Err fault) old new)
           c.in-Err-Failed.field-0-is
           (write_noted c.args.writing.now _ _ (Err c.in-Err-Failed.field-0) old new c.as_str-2.ensures.value
           c.deref.ensures.value c.in-Err-Failed.ensures.noted c.in-Err-Failed.ensures.left);

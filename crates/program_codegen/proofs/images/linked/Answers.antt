@@ -4,7 +4,7 @@ use Rattle.refine_program.specs.class_rules.Classes.{main_of}
 use Rattle.refine_program.specs.class_rules.First.{each_below}
 use Rattle.refine_program.specs.class_rules.Table.{Table}
 use Rattle.refine_program.specs.paired_code.Code.{bodies}
-use Rattle.refine_program.specs.paired_code.Link.{places, first_top}
+use Rattle.refine_program.specs.paired_code.Link.{link_positions, first_top}
 use Rattle.refine_program.specs.Methods.{methods_before, routine_of}
 use Rattle.refine_program.specs.Laws.{IsProgramImage}
 use Rattle.program_codegen.proofs.ImageMade.{few_cells, few_marks, code_size, is_program_image, stands, has_marks}
@@ -63,7 +63,7 @@ made c =
     c.routine_number.result c.in_ok-main.ensures.law (c.routine_number.ensures
     ∙ ap (λ n. 1 + n) (number.is ∙ ap (routine_of program) main))
     (c.in_ok-link.ensures.statics ∙ c.in_ok-statics.ensures
-    (places (first_top c.in_ok-main.main.cells) (bodies c.in_ok-routines.routines.items)))
+    (link_positions (first_top c.in_ok-main.main.cells) (bodies c.in_ok-routines.routines.items)))
 
 pub returns-clause-stands : goal.returns-clause-stands
 returns-clause-stands c =

@@ -2,7 +2,7 @@ use Rattle.std.proofs.Common.{◌∙◌, ap, sym, subst, Err}
 use Rattle.rpp_tree.specs.Views.{source_of}
 use Rattle.token_limits.proofs.roopl_parser_laws.Parts.{small_tokens}
 use Rattle.token_limits.specs.roopl_parser.Viable.{first_limit as limit_read}
-use Rattle.token_limits.specs.Limits.{first_limit}
+use Rattle.token_limits.specs.Limits.{count_first_limit}
 use Rattle.token_limits.proofs.Limited.{derived_limit, none_for}
 use Rattle.roopl_judge.specs.Errors.{IfRefused}
 use Rattle.roopl_judge.proofs.AsRefusals.{IsRefusal, by_parser}
@@ -21,7 +21,7 @@ returns-in-Ok-clause-tree c = record {
   tree = record {
     cutting = c.requires.cutting;
     derives = c.in-Ok.ensures.tree.0;
-    no_limit = none_for (limit_read c.args.tokens.now) (first_limit c.args.tokens.now c.args.tokens.now)
+    no_limit = none_for (limit_read c.args.tokens.now) (count_first_limit c.args.tokens.now c.args.tokens.now)
         (derived_limit c.args.tokens.now (source_of c.in-Ok.program) c.in-Ok.ensures.tree.0) c.in-Ok.ensures.tree.1;
   };
   within = c.in-Ok.ensures.limits (small_tokens c.args.text.now c.args.tokens.now c.requires.cutting);

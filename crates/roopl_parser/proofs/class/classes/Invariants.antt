@@ -1,7 +1,7 @@
 use Rattle.std.proofs.Common.{◌≡◌, ◌≤◌, [], ◌∷◌, List, length, map}
 use Rattle.std.specs.Prelude.{true}
 use Rattle.rpp_tree.specs.Views.{class_text_of}
-use Rattle.roopl_parser.specs.Reader.{scan, Part, Value, Program, Classes}
+use Rattle.roopl_parser.specs.Reader.{scan, Part, ParsedValue, Program, Classes}
 use Rattle.roopl_parser.proofs.class.classes.Given as goal
 
 abbrev pub decreases-classes : goal.decreases-classes
@@ -9,7 +9,7 @@ decreases-classes l = length l.rest
 
 abbrev pub invariant-classes : goal.invariant-classes
 invariant-classes l = record {
-  read : (s : List Part) (vs : List Value) → scan true l.end l.fn.tokens 0 (Program 0 ∷ s) (Classes [] ∷ vs)
+  read : (s : List Part) (vs : List ParsedValue) → scan true l.end l.fn.tokens 0 (Program 0 ∷ s) (Classes [] ∷ vs)
       ≡ scan true l.end l.rest 0 (Program (length l.classes.items) ∷ s)
       (Classes (map class_text_of l.classes.items) ∷ vs);
   shorter : length l.rest ≤ length l.fn.tokens;

@@ -1,7 +1,7 @@
 use Rattle.std.proofs.Common.{◌≡◌, ◌<◌, ◌∷◌, ◌+◌, ◌*◌, ℕ, List, length, map}
 use Rattle.std.specs.Prelude.{true}
 use Rattle.rpp_tree.specs.Views.{statement_of}
-use Rattle.roopl_parser.specs.Reader.{scan, Block, Stmts, Build, MakeBlock, Many, Part, Value}
+use Rattle.roopl_parser.specs.Reader.{scan, Block, Stmts, Build, MakeBlock, Many, Part, ParsedValue}
 use Rattle.roopl_parser.proofs.statement.+statement.Given as goal
 
 abbrev pub decreases-block : goal.decreases-block
@@ -33,7 +33,7 @@ decreases-block-statements l = length l.rest
 
 abbrev pub invariant-block-statements : goal.invariant-block-statements
 invariant-block-statements l = record {
-  read : (n : ℕ) (s : List Part) (vs : List Value) → scan true l.end l.fn.tokens n (Block l.depth l.locals ∷ s) vs
+  read : (n : ℕ) (s : List Part) (vs : List ParsedValue) → scan true l.end l.fn.tokens n (Block l.depth l.locals ∷ s) vs
       ≡ scan true l.end l.rest 0 (Stmts l.depth l.locals ∷ Build MakeBlock ∷ s)
       (Many (map statement_of l.list.items) ∷ vs);
   shorter : length l.rest < length l.fn.tokens;

@@ -2,7 +2,7 @@ use Rattle.std.proofs.Common.{ap₂, refl, subst}
 use Rattle.rpp_tree.specs.Tree.{Whole, Object as AnObject}
 use Rattle.rpp_tree.specs.Views.{lvalue_with}
 use Rattle.source_steps.specs.meaning_machine.Reversed.{undeleted}
-use Rattle.source_steps.specs.Ends.{Ends}
+use Rattle.source_steps.specs.Ends.{EndsAs}
 use Rattle.source_steps.specs.Metered.{metered}
 use Rattle.source_steps.specs.StateView.{setting_of, state_of}
 use Rattle.source_blocks.proofs.Scoped.{as_it_was, framed_in, changed_gives, sound_after}
@@ -20,7 +20,7 @@ returns-in-Ok-clause-gives c =
     c.undelete_object.result c.undelete_object.new.fuel
     (λ st. metered c.args.fuel.now (undeleted (setting_of c.args.run.now.setting) (AnObject c.args.class.now)
     (Whole c.args.name.now) st))
-    (subst (λ l. Ends c.args.run.now.setting c.scope_of-scope.result c.undelete_object.result
+    (subst (λ l. EndsAs c.args.run.now.setting c.scope_of-scope.result c.undelete_object.result
     c.undelete_object.new.heap c.undelete_object.new.values.items c.undelete_object.new.fuel
     (metered c.args.fuel.now (undeleted (setting_of c.args.run.now.setting) (AnObject c.args.class.now) l
     (state_of c.args.run.now.setting c.scope_of-scope.result c.args.run.now.heap c.args.run.now.values.items))))

@@ -1,6 +1,6 @@
 use Rattle.std.proofs.Common.{◌≡◌, ◌-◌, ◌+◌, refl, arith}
 use Rattle.source_blocks.specs.declared.run.Run.{Run}
-use Rattle.source_blocks.specs.Blocks.{count_of}
+use Rattle.source_blocks.specs.Blocks.{statement_count}
 use Rattle.source_blocks.specs.Tasks.{task_of}
 use Rattle.source_blocks.proofs.Around.{turned_is, turned_sound}
 use Rattle.source_blocks.proofs.run.turn.Goals as goal
@@ -15,7 +15,7 @@ returns-clause-turned c =
     let n = c.count_in.ensures in
     let w = c.requires.sound.within in
     let a : c.args.run.now.at + (c.count_in.result - c.args.run.now.at)
-    ≡ count_of (task_of c.args.run.now.task) = omega arith in
+    ≡ statement_count (task_of c.args.run.now.task) = omega arith in
     turned_is c.args.run.now new c.undone_task-run.ensures a refl c.turn_frames.ensures.turned
 
 pub returns-clause-sound : goal.returns-clause-sound
@@ -28,5 +28,5 @@ returns-clause-sound c =
     let n = c.count_in.ensures in
     let w = c.requires.sound.within in
     let a : c.args.run.now.at + (c.count_in.result - c.args.run.now.at)
-    ≡ count_of (task_of c.args.run.now.task) = omega arith in
+    ≡ statement_count (task_of c.args.run.now.task) = omega arith in
     turned_sound c.args.run.now new c.undone_task-run.ensures a refl c.requires.sound c.turn_frames.ensures.open

@@ -1,7 +1,7 @@
 use Rattle.std.proofs.Common.{Bool, refl, sym, subst}
 use Rattle.std.specs.Prelude.{IfErr}
 use Rattle.rpp_tree.specs.Views.{statement_of}
-use Rattle.source_steps.specs.Ends.{Ends, does_simply, turned}
+use Rattle.source_steps.specs.Ends.{EndsAs, does_simply, turned}
 use Rattle.source_steps.specs.StateView.{state_of}
 use Rattle.source_blocks.specs.Stops.{MayStop}
 use Rattle.source_blocks.proofs.TurnedKinds.{simple_before}
@@ -19,7 +19,7 @@ returns-then-back-clause-gives c =
     c.undo_statement.result
     c.undo_statement.new.fuel
     (λ st. does_simply c.args.run.now.setting c.args.fuel.now (turned c.args.back (statement_of c.args.s.now)) st)
-    (subst (λ (b : Bool). Ends c.args.run.now.setting c.scope_of-scope.result c.undo_statement.result
+    (subst (λ (b : Bool). EndsAs c.args.run.now.setting c.scope_of-scope.result c.undo_statement.result
     c.undo_statement.new.heap
     c.undo_statement.new.values.items c.undo_statement.new.fuel (does_simply c.args.run.now.setting c.args.fuel.now
     (turned b (statement_of c.args.s.now)) (state_of c.args.run.now.setting c.scope_of-scope.result
@@ -43,7 +43,7 @@ returns-clause-gives c =
     c.do_statement.result
     c.do_statement.new.fuel
     (λ st. does_simply c.args.run.now.setting c.args.fuel.now (turned c.args.back (statement_of c.args.s.now)) st)
-    (subst (λ (b : Bool). Ends c.args.run.now.setting c.scope_of-scope.result c.do_statement.result
+    (subst (λ (b : Bool). EndsAs c.args.run.now.setting c.scope_of-scope.result c.do_statement.result
     c.do_statement.new.heap
     c.do_statement.new.values.items c.do_statement.new.fuel (does_simply c.args.run.now.setting c.args.fuel.now
     (turned b (statement_of c.args.s.now)) (state_of c.args.run.now.setting c.scope_of-scope.result

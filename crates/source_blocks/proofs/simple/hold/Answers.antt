@@ -2,7 +2,7 @@ use Rattle.std.proofs.Common.{ap₂, refl, subst}
 use Rattle.rpp_tree.specs.Tree.{Swap, Whole}
 use Rattle.rpp_tree.specs.Views.{lvalue_of, lvalue_with}
 use Rattle.source_steps.specs.roopl_semantics.Execution.{element_name}
-use Rattle.source_steps.specs.Ends.{Ends, does_simply}
+use Rattle.source_steps.specs.Ends.{EndsAs, does_simply}
 use Rattle.source_steps.specs.StateView.{state_of}
 use Rattle.source_blocks.proofs.Scoped.{as_it_was, framed_in, changed_gives, sound_after}
 use Rattle.source_blocks.specs.Tasks.{exchange}
@@ -18,7 +18,7 @@ returns-in-Ok-clause-gives c =
     (record c.args.run.now { heap = c.swap.new.heap; values = c.swap.new.values }) refl c.swap.result
     c.swap.new.fuel (λ st. does_simply c.args.run.now.setting c.args.fuel.now
     (Swap c.args.at (Whole (element_name c.args.at)) (lvalue_of c.args.element.now)) st)
-    (subst (λ l. Ends c.args.run.now.setting c.scope_of-scope.result c.swap.result c.swap.new.heap
+    (subst (λ l. EndsAs c.args.run.now.setting c.scope_of-scope.result c.swap.result c.swap.new.heap
     c.swap.new.values.items c.swap.new.fuel (does_simply c.args.run.now.setting c.args.fuel.now
     (Swap c.args.at l (lvalue_of c.args.element.now)) (state_of c.args.run.now.setting c.scope_of-scope.result
     c.args.run.now.heap

@@ -1,7 +1,7 @@
 use Rattle.std.proofs.Common.{ap₂, refl, subst}
 use Rattle.rpp_tree.specs.Tree.{New, Whole, Object as AnObject}
 use Rattle.rpp_tree.specs.Views.{lvalue_with}
-use Rattle.source_steps.specs.Ends.{Ends, does_simply}
+use Rattle.source_steps.specs.Ends.{EndsAs, does_simply}
 use Rattle.source_steps.specs.StateView.{state_of}
 use Rattle.source_blocks.proofs.Scoped.{as_it_was, framed_in, changed_gives, sound_after}
 use Rattle.source_blocks.proofs.simple.make.Goals as goal
@@ -17,7 +17,7 @@ returns-in-Ok-clause-gives c =
     (record c.args.run.now { heap = c.new_object.new.heap; values = c.new_object.new.values }) refl c.new_object.result
     c.new_object.new.fuel (λ st. does_simply c.args.run.now.setting c.args.fuel.now
     (New c.args.at (AnObject c.args.class.now) (Whole c.args.name.now)) st)
-    (subst (λ l. Ends c.args.run.now.setting c.scope_of-scope.result c.new_object.result c.new_object.new.heap
+    (subst (λ l. EndsAs c.args.run.now.setting c.scope_of-scope.result c.new_object.result c.new_object.new.heap
     c.new_object.new.values.items c.new_object.new.fuel (does_simply c.args.run.now.setting c.args.fuel.now
     (New c.args.at (AnObject c.args.class.now) l) (state_of c.args.run.now.setting c.scope_of-scope.result
     c.args.run.now.heap

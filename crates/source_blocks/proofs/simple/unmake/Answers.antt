@@ -1,7 +1,7 @@
 use Rattle.std.proofs.Common.{ap₂, refl, subst}
 use Rattle.rpp_tree.specs.Tree.{Delete, Whole, Object as AnObject}
 use Rattle.rpp_tree.specs.Views.{lvalue_with}
-use Rattle.source_steps.specs.Ends.{Ends, does_simply}
+use Rattle.source_steps.specs.Ends.{EndsAs, does_simply}
 use Rattle.source_steps.specs.StateView.{state_of}
 use Rattle.source_blocks.proofs.Scoped.{as_it_was, framed_in, changed_gives, sound_after}
 use Rattle.source_blocks.proofs.simple.unmake.Goals as goal
@@ -18,7 +18,7 @@ returns-in-Ok-clause-gives c =
     c.delete_object.result
     c.delete_object.new.fuel (λ st. does_simply c.args.run.now.setting c.args.fuel.now
     (Delete c.args.at (AnObject c.args.class.now) (Whole c.args.name.now)) st)
-    (subst (λ l. Ends c.args.run.now.setting c.scope_of-scope.result c.delete_object.result c.delete_object.new.heap
+    (subst (λ l. EndsAs c.args.run.now.setting c.scope_of-scope.result c.delete_object.result c.delete_object.new.heap
     c.delete_object.new.values.items c.delete_object.new.fuel (does_simply c.args.run.now.setting c.args.fuel.now
     (Delete c.args.at (AnObject c.args.class.now) l) (state_of c.args.run.now.setting c.scope_of-scope.result
     c.args.run.now.heap

@@ -3,7 +3,7 @@ use Rattle.rpp_tree.specs.Places.{statement_place}
 use Rattle.rpp_tree.specs.Tree.{Statements}
 use Rattle.rpp_tree.specs.Views.{statement_of}
 use Rattle.source_blocks.specs.declared.task.Task.{Task}
-use Rattle.source_blocks.specs.Blocks.{count_of, statement_at}
+use Rattle.source_blocks.specs.Blocks.{statement_count, statement_at}
 use Rattle.source_blocks.specs.Tasks.{task_of}
 use Rattle.source_checks.proofs.Undone.{place_turned}
 use Rattle.source_checks.proofs.places.place_at.Goals as goal

@@ -7,7 +7,7 @@ use Rattle.source_courses.specs.declared.running.TheConstants.{MOST_COST}
 use Rattle.source_courses.specs.declared.moves.Walk.{Walk}
 use Rattle.source_debugger.specs.declared.debugger.Answer.{Answer}
 use Rattle.source_courses.specs.Walks.{forward, backward}
-use Rattle.source_debugger.specs.Shown.{Told, walked, told_by}
+use Rattle.source_debugger.specs.Shown.{Told, walked_trail, told_by}
 use Rattle.source_debugger.proofs.Following.{within_as}
 use Rattle.source_debugger.proofs.debugger.carry_out.Goals as goal
 
@@ -18,7 +18,7 @@ returns-in_ok-walk-in-Step-clause-told c =
     (sym (ap (λ (command : Command). told_by (source_of c.args.run.now.checked.now)
     (trail (source_of c.args.run.now.checked.now) c.args.run.now.limits c.args.run.now.input.now.words.items
     MOST_COST) command c.args.position) c.in-Step.is
-    ∙ ap (walked (trail (source_of c.args.run.now.checked.now) c.args.run.now.limits
+    ∙ ap (walked_trail (trail (source_of c.args.run.now.checked.now) c.args.run.now.limits
     c.args.run.now.input.now.words.items MOST_COST)) c.in_ok-walk-in-Step.ensures.walk))
     c.walk_answer.ensures.told
 
@@ -33,7 +33,7 @@ returns-in_ok-walk-in-Back-clause-told c =
     (sym (ap (λ (command : Command). told_by (source_of c.args.run.now.checked.now)
     (trail (source_of c.args.run.now.checked.now) c.args.run.now.limits c.args.run.now.input.now.words.items
     MOST_COST) command c.args.position) c.in-Back.is
-    ∙ ap (λ (w : Walk). walked (trail (source_of c.args.run.now.checked.now) c.args.run.now.limits
+    ∙ ap (λ (w : Walk). walked_trail (trail (source_of c.args.run.now.checked.now) c.args.run.now.limits
     c.args.run.now.input.now.words.items MOST_COST) (Some w)) c.in_ok-walk-in-Back.ensures.walk))
     c.walk_answer-in-Back.ensures.told
 
@@ -52,7 +52,7 @@ returns-in_ok-walk-in-To-clause-told c =
     (sym (ap (λ (command : Command). told_by (source_of c.args.run.now.checked.now)
     (trail (source_of c.args.run.now.checked.now) c.args.run.now.limits c.args.run.now.input.now.words.items
     MOST_COST) command c.args.position) c.in-To.is ∙ ap
-    (walked (trail (source_of c.args.run.now.checked.now) c.args.run.now.limits
+    (walked_trail (trail (source_of c.args.run.now.checked.now) c.args.run.now.limits
     c.args.run.now.input.now.words.items MOST_COST)) walk))
     c.walk_answer-in-To.ensures.told
 
@@ -71,7 +71,7 @@ returns-in_ok-walk-in-BackTo-clause-told c =
     (sym (ap (λ (command : Command). told_by (source_of c.args.run.now.checked.now)
     (trail (source_of c.args.run.now.checked.now) c.args.run.now.limits c.args.run.now.input.now.words.items
     MOST_COST) command c.args.position) c.in-BackTo.is
-    ∙ ap (λ (w : Walk). walked (trail (source_of c.args.run.now.checked.now) c.args.run.now.limits
+    ∙ ap (λ (w : Walk). walked_trail (trail (source_of c.args.run.now.checked.now) c.args.run.now.limits
     c.args.run.now.input.now.words.items MOST_COST) (Some w)) walk))
     c.walk_answer-in-BackTo.ensures.told
 

@@ -3,7 +3,7 @@ use Rattle.rpp_tree.specs.Views.{statement_of}
 use Rattle.source_blocks.specs.source_steps.Ends.{turned}
 use Rattle.source_blocks.specs.source_steps.StateView.{setting_of}
 use Rattle.source_blocks.specs.declared.run.Run.{Run}
-use Rattle.source_blocks.specs.Blocks.{count_of}
+use Rattle.source_blocks.specs.Blocks.{statement_count}
 use Rattle.source_blocks.specs.Tasks.{task_of}
 use Rattle.source_blocks.specs.Runs.{config_of}
 use Rattle.source_statements.proofs.Begun.{alone_fails, alone_goes, simple_is}
@@ -11,7 +11,7 @@ use Rattle.source_statements.proofs.begins.begin_plain.Goals as goal
 
 pub pass-requires-clause-within : goal.pass-requires-clause-within
 pass-requires-clause-within c =
-    subst (λ (r : Run). r.at < count_of (task_of r.task)) (sym c.carry_out.ensures.same) c.requires.within
+    subst (λ (r : Run). r.at < statement_count (task_of r.task)) (sym c.carry_out.ensures.same) c.requires.within
 
 pub returns-in-Err-clause-gives : goal.returns-in-Err-clause-gives
 returns-in-Err-clause-gives c =

@@ -1,20 +1,20 @@
 use Rattle.std.proofs.Common.{◌<◌, sym, ap, subst, ◌∙◌, arith, length, ◌≡◌}
 use Rattle.source_blocks.specs.source_steps.StateView.{setting_of}
 use Rattle.source_blocks.specs.declared.run.Run.{Run}
-use Rattle.source_blocks.specs.Blocks.{count_of}
-use Rattle.source_blocks.specs.Tasks.{task_of, line_of}
+use Rattle.source_blocks.specs.Blocks.{statement_count}
+use Rattle.source_blocks.specs.Tasks.{task_of, statement_line}
 use Rattle.source_blocks.specs.Runs.{config_of}
 use Rattle.source_statements.proofs.Begun.{alone_fails, alone_goes, simple_is}
 use Rattle.source_statements.proofs.begins.begin_simple.Goals as goal
 
 pub pass-requires-clause-within : goal.pass-requires-clause-within
 pass-requires-clause-within c =
-    subst (λ (r : Run). r.at < count_of (task_of r.task)) (sym c.carry_line.ensures.same) c.requires.within
+    subst (λ (r : Run). r.at < statement_count (task_of r.task)) (sym c.carry_line.ensures.same) c.requires.within
 
 pub returns-in-Err-clause-gives : goal.returns-in-Err-clause-gives
 returns-in-Err-clause-gives c =
     alone_fails c.args.run.now c.args.fuel.now _ _
-    (simple_is c.args.run.now (line_of c.args.line.now) c.requires.here c.requires.simple)
+    (simple_is c.args.run.now (statement_line c.args.line.now) c.requires.here c.requires.simple)
     c.carry_line.new.fuel c.in-Err.why c.in-Err.ensures.gives
 
 pub returns-in-Err-clause-setting : goal.returns-in-Err-clause-setting
@@ -23,7 +23,7 @@ returns-in-Err-clause-setting c = ap (λ (r : Run). setting_of r.setting) c.carr
 pub returns-in-Ok-clause-gives : goal.returns-in-Ok-clause-gives
 returns-in-Ok-clause-gives c =
     alone_goes c.args.run.now c.args.fuel.now _ _
-    (simple_is c.args.run.now (line_of c.args.line.now) c.requires.here c.requires.simple) c.carry_line.new.run
+    (simple_is c.args.run.now (statement_line c.args.line.now) c.requires.here c.requires.simple) c.carry_line.new.run
     c.carry_line.new.fuel (config_of c.pass.new.run) c.in-Ok.ensures.gives
     c.carry_line.ensures.same c.pass.ensures.passed
 

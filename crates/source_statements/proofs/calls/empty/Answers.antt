@@ -1,6 +1,6 @@
 use Rattle.std.proofs.Common.{map, refl}
 use Rattle.source_blocks.specs.roopl_semantics.Execution.{moved_out}
-use Rattle.source_blocks.specs.source_steps.CellView.{cell_of}
+use Rattle.source_blocks.specs.source_steps.CellView.{cell_view}
 use Rattle.source_blocks.proofs.Scoped.{framed_in, moved_is, still_sound}
 use Rattle.source_statements.proofs.calls.empty.Goals as goal
 
@@ -11,7 +11,7 @@ pub returns-clause-moved : goal.returns-clause-moved
 returns-clause-moved c =
     moved_is c.args.run.now c.scope_of-scope.result c.scope_of-scope.ensures
     (record c.args.run.now { heap = c.move_out.new.heap; values = c.move_out.new.values }) refl
-    (moved_out (map cell_of c.args.cells.now)) c.move_out.ensures.moved
+    (moved_out (map cell_view c.args.cells.now)) c.move_out.ensures.moved
 
 pub returns-clause-sound : goal.returns-clause-sound
 returns-clause-sound c =

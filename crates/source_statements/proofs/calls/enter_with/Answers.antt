@@ -6,13 +6,13 @@ use Rattle.source_blocks.specs.class_rules.Members.{no_procedure}
 use Rattle.source_blocks.specs.class_rules.Classes.{method_named}
 use Rattle.source_blocks.specs.roopl_semantics.Value.{Cell, read}
 use Rattle.source_blocks.specs.roopl_semantics.Execution.{cells_named, class_of, moved_out, in_direction}
-use Rattle.source_blocks.specs.source_steps.CellView.{cell_of}
+use Rattle.source_blocks.specs.source_steps.CellView.{cell_view}
 use Rattle.source_blocks.specs.source_steps.Marks.{with_marks}
 use Rattle.source_blocks.specs.source_steps.StateView.{setting_of}
 use Rattle.source_blocks.specs.declared.frames.Caller.{Caller}
 use Rattle.source_blocks.specs.declared.frames.Part.TheVariants as runs
 use Rattle.source_blocks.specs.declared.run.Run.{Run}
-use Rattle.source_blocks.specs.Blocks.{count_of}
+use Rattle.source_blocks.specs.Blocks.{statement_count}
 use Rattle.source_blocks.specs.Tasks.{task_of}
 use Rattle.source_blocks.specs.Opens.{caller_of, cells_in, values_in, IsCaller}
 use Rattle.source_blocks.specs.Runs.{config_of, state_in, only_cell}
@@ -38,8 +38,8 @@ open_block-requires-clause-sound c =
 
 pub open_block-requires-clause-within : goal.open_block-requires-clause-within
 open_block-requires-clause-within c =
-    subst (λ (r : Run). r.at < count_of (task_of r.task)) (sym c.become_callee-caller.ensures.callee)
-    (subst (λ (r : Run). r.at < count_of (task_of r.task)) (sym c.move_in.ensures.same) c.requires.within)
+    subst (λ (r : Run). r.at < statement_count (task_of r.task)) (sym c.become_callee-caller.ensures.callee)
+    (subst (λ (r : Run). r.at < statement_count (task_of r.task)) (sym c.move_in.ensures.same) c.requires.within)
 
 pub open_block-requires-clause-part : goal.open_block-requires-clause-part
 open_block-requires-clause-part c =
@@ -71,7 +71,7 @@ returns-clause-entered c =
     ∙ c.receiver_of-receiver.ensures.cells)
     (ap (λ (k : Caller). values_in k.receiver) c.become_callee-caller.ensures.caller
     ∙ c.receiver_of-receiver.ensures.values)
-    (ap (λ (k : Caller). map cell_of k.args.items) c.become_callee-caller.ensures.caller ∙ c.requires.cells)
+    (ap (λ (k : Caller). map cell_view k.args.items) c.become_callee-caller.ensures.caller ∙ c.requires.cells)
     c.open_block.result (config_of c.open_block.new.run) (task_of c.task_for-task.result)
     c.open_block.ensures.opened
     (c.task_for-task.ensures ∙ ap (λ (m : Procedure). in_direction c.args.calls.now.back m.body) same)

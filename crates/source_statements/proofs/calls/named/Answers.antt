@@ -1,6 +1,6 @@
 use Rattle.std.proofs.Common.{◌∙◌, ap}
 use Rattle.source_blocks.specs.roopl_semantics.Value.{read, cell_named}
-use Rattle.source_blocks.specs.source_steps.CellView.{cell_of}
+use Rattle.source_blocks.specs.source_steps.CellView.{cell_view}
 use Rattle.source_blocks.specs.Runs.{state_in}
 use Rattle.source_blocks.specs.source_steps.StateView.{setting_of}
 use Rattle.source_blocks.proofs.Scoped.{framed_by, slice_is}
@@ -22,7 +22,7 @@ returns-clause-cell c = c.cell_of_name-cell.ensures
 pub returns-clause-value : goal.returns-clause-value
 returns-clause-value c =
     c.read_cell-value.ensures
-    ∙ ap (λ st. read st (cell_of c.cell_of_name-cell.result))
+    ∙ ap (λ st. read st (cell_view c.cell_of_name-cell.result))
     (slice_is c.args.run.now c.scope_of-scope.result c.scope_of-scope.ensures c.deref-2.result.now
     c.deref-2.ensures.value)
     ∙ ap (read (state_in c.args.run.now)) (c.cell_of_name-cell.ensures

@@ -1,8 +1,8 @@
 use Rattle.std.proofs.Common.{◌<◌, sym, ap, subst, ◌∙◌, arith, length, ◌≡◌}
 use Rattle.source_blocks.specs.source_steps.StateView.{setting_of}
 use Rattle.source_blocks.specs.declared.run.Run.{Run}
-use Rattle.source_blocks.specs.Blocks.{count_of}
-use Rattle.source_blocks.specs.Tasks.{task_of, line_of}
+use Rattle.source_blocks.specs.Blocks.{statement_count}
+use Rattle.source_blocks.specs.Tasks.{task_of, statement_line}
 use Rattle.source_blocks.specs.Runs.{config_of}
 use Rattle.source_statements.proofs.Begun.{alone_fails, alone_goes}
 use Rattle.source_statements.proofs.Asking.{request_is}
@@ -11,12 +11,12 @@ use Rattle.source_statements.proofs.steps.begin_request.Goals as goal
 
 pub pass-requires-clause-within : goal.pass-requires-clause-within
 pass-requires-clause-within c =
-    subst (λ (r : Run). r.at < count_of (task_of r.task)) (sym c.take_line_back.ensures.same) c.requires.within
+    subst (λ (r : Run). r.at < statement_count (task_of r.task)) (sym c.take_line_back.ensures.same) c.requires.within
 
 pub returns-in-Err-clause-gives : goal.returns-in-Err-clause-gives
 returns-in-Err-clause-gives c =
     alone_fails c.args.run.now c.args.fuel.now _ _
-    (request_is c.args.run.now (line_of c.args.line.now) c.requires.here c.requires.asks)
+    (request_is c.args.run.now (statement_line c.args.line.now) c.requires.here c.requires.asks)
     c.take_line_back.new.fuel c.in-Err.why c.in-Err.ensures.gives
 
 pub returns-in-Err-clause-setting : goal.returns-in-Err-clause-setting
@@ -25,7 +25,7 @@ returns-in-Err-clause-setting c = ap (λ (r : Run). setting_of r.setting) c.take
 pub returns-in-Ok-clause-gives : goal.returns-in-Ok-clause-gives
 returns-in-Ok-clause-gives c =
     alone_goes c.args.run.now c.args.fuel.now _ _
-    (request_is c.args.run.now (line_of c.args.line.now) c.requires.here c.requires.asks) c.take_line_back.new.run
+    (request_is c.args.run.now (statement_line c.args.line.now) c.requires.here c.requires.asks) c.take_line_back.new.run
     c.take_line_back.new.fuel (config_of c.pass.new.run) c.in-Ok.ensures.gives
     c.take_line_back.ensures.same c.pass.ensures.passed
 
@@ -41,4 +41,4 @@ returns-in-Ok-clause-opens c =
     omega arith
 
 pub returns-in-Err-clause-stops : goal.returns-in-Err-clause-stops
-returns-in-Err-clause-stops c = asked_may (line_of c.args.line.now) c.in-Err.why c.requires.asks
+returns-in-Err-clause-stops c = asked_may (statement_line c.args.line.now) c.in-Err.why c.requires.asks

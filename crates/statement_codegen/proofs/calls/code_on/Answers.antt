@@ -2,7 +2,7 @@ use Rattle.std.proofs.Common.{List, subst, sym, ap, ◌∙◌}
 use Rattle.std.specs.Prelude.{IfOk}
 use Rattle.rpp_tree.specs.Views.{source_of}
 use Rattle.refine_form.specs.declared.spot.Spot.{Spot}
-use Rattle.branch_codegen.specs.method_calls.Names.{slot_of}
+use Rattle.branch_codegen.specs.method_calls.Names.{method_slot_of}
 use Rattle.branch_codegen.specs.method_calls.Laws.{CallOnCode}
 use Rattle.statement_codegen.proofs.CallLaws.{on_returns}
 use Rattle.statement_codegen.proofs.calls.code_on.Goals as goal
@@ -13,7 +13,7 @@ returns-clause-law c =
     c.slot_at-slot.result _ c.call_on.result
     (sym c.spot_at-spot.ensures.value) c.spot_at-spot.ensures.near
     (record {
-      slot_is = sym (c.slot_at-slot.ensures.value ∙ ap (λ class. slot_of (source_of c.args.scope.now.program) class
+      slot_is = sym (c.slot_at-slot.ensures.value ∙ ap (λ class. method_slot_of (source_of c.args.scope.now.program) class
           c.args.method.now) c.class_at-class.ensures);
       small = c.slot_at-slot.ensures.small;
       few = c.requires.few;

@@ -3,7 +3,7 @@ use Rattle.std.specs.Prelude.{IfOk}
 use Rattle.rpp_tree.specs.Views.{source_of}
 use Rattle.branch_codegen.specs.class_rules.declared.method.MethodId.{MethodId}
 use Rattle.refine_form.specs.declared.spot.Spot.{Spot}
-use Rattle.branch_codegen.specs.method_calls.Names.{slot_of}
+use Rattle.branch_codegen.specs.method_calls.Names.{method_slot_of}
 use Rattle.branch_codegen.specs.method_calls.Laws.{OwnCallCode}
 use Rattle.statement_codegen.proofs.CallLaws.{own_returns}
 use Rattle.statement_codegen.proofs.calls.own_code.Goals as goal
@@ -12,7 +12,7 @@ pub returns-clause-law : goal.returns-clause-law
 returns-clause-law c =
     own_returns c.args.scope.now c.args.back c.args.method.now c.args.args.now c.slot_at-slot.result _ c.own_call.result
     (record {
-      slot_is = sym (c.slot_at-slot.ensures.value ∙ ap (λ (id : MethodId). slot_of (source_of c.args.scope.now.program)
+      slot_is = sym (c.slot_at-slot.ensures.value ∙ ap (λ (id : MethodId). method_slot_of (source_of c.args.scope.now.program)
           id.class c.args.method.now) c.method-id.ensures);
       small = c.slot_at-slot.ensures.small;
       few = c.requires.few;

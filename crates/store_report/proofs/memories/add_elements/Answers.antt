@@ -5,11 +5,11 @@ use Rattle.refine_frame.specs.rpp_words.Texts.{line_end}
 use Rattle.static_layout.specs.roopl_semantics.Report.{Text, element_lines, value_shown}
 use Rattle.pisa_machine.specs.pisa_isa.Machine.{word_at as word_told}
 use Rattle.store_report.specs.declared.leads.Lead.{Lead}
-use Rattle.store_report.specs.Shown.{value_by, values_by, addresses_of}
+use Rattle.store_report.specs.Shown.{lead_value, values_by, addresses_of}
 use Rattle.store_report.proofs.memories.add_elements.Goals as goal
 
 abbrev line : List ℕ → ℕ → Lead → ℕ → Text
-line names index lead word = codes "  [" ++ decimal index ++ codes "] = " ++ value_shown names (value_by lead word)
+line names index lead word = codes "  [" ++ decimal index ++ codes "] = " ++ value_shown names (lead_value lead word)
     ++ line_end
 
 next : (cells names : List ℕ) (before : Text) (at n count : ℕ) (lead : Lead) → n < count

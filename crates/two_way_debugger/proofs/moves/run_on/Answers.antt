@@ -1,6 +1,6 @@
 use Rattle.std.proofs.Common.{◌≡◌, ◌+◌, ◌<◌, ◌≤◌, sym, ap, arith}
 use Rattle.two_way_debugger.specs.declared.moves.TheConstants.{LAST_POSITION}
-use Rattle.two_way_debugger.specs.Moves.{Walk}
+use Rattle.two_way_debugger.specs.Moves.{MachineWalk}
 use Rattle.two_way_debugger.proofs.RunOn.{stopped, all_made, at_last}
 use Rattle.two_way_debugger.proofs.moves.run_on.Goals as goal
 
@@ -17,10 +17,10 @@ returns-then-made-before g c =
     let within : bound ≤ c.args.most = omega (arith, least) in
     let whole = stopped c.args.most bound old new end.stop end.spent within room run.image run.runs run.made
     (λ all. c.if-made-before.true (omega (arith, all, c.made.ensures.made, before))) in
-    let spent = ap (λ (w : Walk). w.spent) whole in
+    let spent = ap (λ (w : MachineWalk). w.spent) whole in
     record {
-      ending = sym (ap (λ (w : Walk). w.ending) whole);
-      position = sym (ap (λ (w : Walk). w.position) whole);
+      ending = sym (ap (λ (w : MachineWalk). w.ending) whole);
+      position = sym (ap (λ (w : MachineWalk). w.position) whole);
       counter = omega (arith, spent, run.counter);
     }
 
@@ -39,10 +39,10 @@ returns-then-bound-most g c =
     let full : LAST_POSITION ≤ new.made =
     omega (arith, all, least, before, less, c.if-before-ge-LAST_POSITION.false) in
     let whole = at_last c.args.most bound old new end.stop end.spent less room run.image run.runs run.made all full in
-    let spent = ap (λ (w : Walk). w.spent) whole in
+    let spent = ap (λ (w : MachineWalk). w.spent) whole in
     record {
-      ending = sym (ap (λ (w : Walk). w.ending) whole);
-      position = sym (ap (λ (w : Walk). w.position) whole);
+      ending = sym (ap (λ (w : MachineWalk). w.ending) whole);
+      position = sym (ap (λ (w : MachineWalk). w.position) whole);
       counter = omega (arith, spent, run.counter);
     }
 
@@ -59,9 +59,9 @@ returns-else-bound-most g c =
     let all : new.made ≡ old.made + bound = omega (arith, c.if-made-before.false, c.made.ensures.made, before) in
     let same : bound ≡ c.args.most = omega (arith, c.if-bound-most.false) in
     let whole = all_made c.args.most bound old new end.stop end.spent same room run.image run.runs run.made all in
-    let spent = ap (λ (w : Walk). w.spent) whole in
+    let spent = ap (λ (w : MachineWalk). w.spent) whole in
     record {
-      ending = sym (ap (λ (w : Walk). w.ending) whole);
-      position = sym (ap (λ (w : Walk). w.position) whole);
+      ending = sym (ap (λ (w : MachineWalk). w.ending) whole);
+      position = sym (ap (λ (w : MachineWalk). w.position) whole);
       counter = omega (arith, spent, run.counter);
     }

@@ -16,7 +16,7 @@ use denote.Ref.{mut_vals, mut_Tells, shr_vals, shr_Tells}
 use denote.Signature.{plain, types_at, named_lft}
 use denote.Steps.{nothing, opens, closes}
 use denote.Triple.Walked.{Stays, says, ends_at, walk_of, stay_ref, stay_dropped, Goes-ref, Goes-dropped}
-use Rattle.live_port.specs.Notes.{event_of}
+use Rattle.live_port.specs.Notes.{heard_of}
 use Rattle.live_port.specs.declared.trail.Trail.{Trail}
 use Rattle.live_port.specs.contracts.trail.Trail.{the_row as R}
 use Rattle.live_port.specs.contracts.trail.Note as Noted
@@ -46,7 +46,7 @@ note_spec 𝓤 𝓛 𝓜 𝓡 wired =
     (λ κs. (mut_Tells (named 0) κs.0 R, (shr_Tells (named 1) κs.1.0 (Noted.the_row (named_lft 3 2 tt κs)), tt)))
     (λ κs qs bounds a g are.
     let b = a.0.ref_ptr.0 in let o = a.0.ref_ptr.1 in let h = a.0.now in
-    let h' : Trail = record { marker = h.marker; events = event_of a.1.0.now ∷ h.events } in
+    let h' : Trail = record { marker = h.marker; events = heard_of a.1.0.now ∷ h.events } in
     let y : W.Ghost = ((κs, qs, bounds, a, (mut_vals a.0, (shr_vals a.1.0, tt))), tt) in
     qed 𝓛 (((‵ (flft κs.0 qs.0) ⊛ (‵ (flft κs.1.0 qs.1.0) ⊛ (‵ (flft κs.1.1.0 qs.1.1.0) ⊛ ‵ ftrue))) ⊛ ‵
     (owns (types_at f.signature.params κs) a y.0.4)) ∷ ‵ ftrue ∷ []) ∵

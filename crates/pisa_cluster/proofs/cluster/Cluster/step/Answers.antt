@@ -1,7 +1,7 @@
 use Rattle.std.proofs.Common.{◌≡◌, ◌∙◌, ◌≤◌, ◌+◌, ◌-◌, ap, ap₂, sym, subst, length, slice_set, get_or, take}
 use Rattle.pisa_isa.specs.Machine.{stop}
-use Rattle.pisa_cluster.specs.Replay.{seen}
-use Rattle.pisa_cluster.specs.Schedules.{Schedule, IsMade}
+use Rattle.pisa_cluster.specs.Replay.{processor_state}
+use Rattle.pisa_cluster.specs.Schedules.{Schedule, IsStepMade}
 use Rattle.pisa_cluster.proofs.Calls.{MadeBy, made_by, stopped_by, put_back, popped}
 use Rattle.pisa_cluster.proofs.cluster.Cluster.step.Goals as goal
 
@@ -69,7 +69,7 @@ returns-in-Some-clause-answer c =
     (c.index_mut.ensures.value ∙ ap (λ (s : Schedule). get_or s.joint.processors (c.args.who - 1)
     c.index_mut.result.now) c.self.view_is)
     (c.in-Some.ensures.stops ∙ ap (λ (s : Schedule). stop c.index_mut.result.now.image.code
-    (seen c.index_mut.result.now s.joint.cells)) c.self.view_is)
+    (processor_state c.index_mut.result.now s.joint.cells)) c.self.view_is)
     (stays ∙ c.self.view_is)
 
 pub returns-in-None-clause-answer : goal.returns-in-None-clause-answer
@@ -83,4 +83,4 @@ returns-in-None-clause-answer c =
       kept = c.push.new.self.items;
       next_serial = c.self.inside.next_serial + 1;
     } in
-    subst (λ (s : Schedule). IsMade c.args.who c.self.inside.next_serial s new) c.self.view_is (both c).is_made
+    subst (λ (s : Schedule). IsStepMade c.args.who c.self.inside.next_serial s new) c.self.view_is (both c).is_made

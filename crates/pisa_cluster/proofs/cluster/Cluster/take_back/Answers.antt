@@ -1,5 +1,5 @@
 use Rattle.std.proofs.Common.{refl, ◌≡◌, ◌∙◌, ◌-◌, ap, ap₂, sym, subst, remove, slice_set, length, length-set, arith}
-use Rattle.pisa_cluster.specs.Replay.{seen, replay, makers, start_of_joint}
+use Rattle.pisa_cluster.specs.Replay.{processor_state, replay, makers, start_of_joint}
 use Rattle.pisa_cluster.specs.Schedules.{Schedule, IsCluster, IsFree}
 use Rattle.pisa_cluster.proofs.Undoing.{free_step}
 use Rattle.pisa_cluster.proofs.Calls.{back_at, who_low, who_high, is_next, goes_there, seen_next, back_to}
@@ -64,7 +64,7 @@ invariant_of-self c =
     let b = back_at old c.args.at c.remove-step.result c.self.invariant free c.remove-step.ensures.value in
     let s = replay (start_of_joint old.joint) (makers (remove old.kept c.args.at)) in
     let q = c.index_mut.result.now in
-    let undone = c.step_back.ensures.undoes (seen b.processor s.cells) b.state
+    let undone = c.step_back.ensures.undoes (processor_state b.processor s.cells) b.state
     (goes_there old s c.remove-step.result b q c.index_mut.ensures.value)
     (seen_next old s c.remove-step.result b q c.index_mut.ensures.value) in
     let led = back_to old s c.remove-step.result b q c.step_back.new.self c.step_back.new.cells.words.items
@@ -97,7 +97,7 @@ returns c =
     let b = back_at old c.args.at c.remove-step.result c.self.invariant free c.remove-step.ensures.value in
     let s = replay (start_of_joint old.joint) (makers (remove old.kept c.args.at)) in
     let q = c.index_mut.result.now in
-    let undone = c.step_back.ensures.undoes (seen b.processor s.cells) b.state
+    let undone = c.step_back.ensures.undoes (processor_state b.processor s.cells) b.state
     (goes_there old s c.remove-step.result b q c.index_mut.ensures.value)
     (seen_next old s c.remove-step.result b q c.index_mut.ensures.value) in
     let led = back_to old s c.remove-step.result b q c.step_back.new.self c.step_back.new.cells.words.items

@@ -1,5 +1,5 @@
 use Rattle.std.proofs.Common.{◌≡◌, sym, subst, suc, ◌+◌, arith, refl, ℕ}
-use Rattle.pisa_isa.specs.Machine.{state_of, next}
+use Rattle.pisa_isa.specs.Machine.{core_state, next}
 use Rattle.pisa_isa.specs.Runs.{IsReached}
 use Rattle.pisa_isa.proofs.Keeps.{reached_after}
 use Rattle.pisa_machine.specs.Reached.{words_of}
@@ -8,7 +8,7 @@ use Rattle.pisa_machine.proofs.machine.Machine.make_step.Goals as goal
 pub invariant_of-self-in-None : goal.invariant_of-self-in-None
 invariant_of-self-in-None g c =
     let self = c.self.inside in
-    let m = state_of self.core (words_of self.cells.words.items self.cells.count) in
+    let m = core_state self.core (words_of self.cells.words.items self.cells.count) in
     let stops = rw c.code.ensures.code at c.in-None.ensures.stops in
     let n : suc self.made ≡ self.made + 1 = omega arith in
     record {

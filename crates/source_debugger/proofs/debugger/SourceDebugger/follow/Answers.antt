@@ -1,7 +1,7 @@
 use Rattle.pisa_scripts.specs.declared.command.Command.TheVariants.{Step}
 use Rattle.std.proofs.Common.{arith, ap, ◌∙◌, ◌++◌, subst, sym}
 use Rattle.std.specs.Prelude.{string_bytes}
-use Rattle.source_debugger.specs.Standing.{IsAlong}
+use Rattle.source_debugger.specs.Standing.{IsAlongRun}
 use Rattle.source_debugger.proofs.Following.{followed_more, followed_over, followed_along}
 use Rattle.pisa_scripts.proofs.Errors.{on_err_always}
 use Rattle.source_debugger.proofs.debugger.SourceDebugger.follow.Goals as goal
@@ -13,15 +13,15 @@ loop-command-preserved c =
 
 pub returns-in_err-command-clause-along : goal.returns-in_err-command-clause-along
 returns-in_err-command-clause-along c =
-    on_err_always c.from_residual.result (IsAlong c.args.self.now c.args.script.now c.command.new.self)
-    (subst (λ s. IsAlong c.args.self.now c.args.script.now s) (sym c.in_err-command.ensures.stays)
+    on_err_always c.from_residual.result (IsAlongRun c.args.self.now c.args.script.now c.command.new.self)
+    (subst (λ s. IsAlongRun c.args.self.now c.args.script.now s) (sym c.in_err-command.ensures.stays)
     (followed_along c.args.self.now c.loop-command.self c.args.script.now c.loop-command.command-index _
     c.loop-command.invariant))
 
 pub returns-in_err-push_str-clause-along : goal.returns-in_err-push_str-clause-along
 returns-in_err-push_str-clause-along c =
     on_err_always c.from_residual-in_err-push_str.result
-    (IsAlong c.args.self.now c.args.script.now c.loop-command.self)
+    (IsAlongRun c.args.self.now c.args.script.now c.loop-command.self)
     (followed_along c.args.self.now c.loop-command.self c.args.script.now c.loop-command.command-index _
     c.loop-command.invariant)
 

@@ -1,13 +1,13 @@
 use Rattle.std.proofs.Common.{◌≡◌, ◌+◌, ◌-◌, sym, ap, ◌∙◌, arith, Some, length, slice_get}
 use Rattle.source_store.specs.declared.requests.Request.TheVariants as asked
-use Rattle.source_store.specs.HeapView.{block_at, before_take, kept_of}
+use Rattle.source_store.specs.HeapView.{live_block_at, before_take, kept_of}
 use Rattle.source_store.proofs.Blocks.{small_size}
 use Rattle.source_store.proofs.TakenBack.{log_of_none, log_of_some, untook_heap, untook_view}
 use Rattle.source_store.proofs.heap.Heap.untake.Goals as goal
 
 pub overflow_cast-size : goal.overflow_cast-size
 overflow_cast-size c =
-    let there = sym (ap (λ t. block_at t c.in-Some-Taken.name) c.deref-in-Some-Taken.ensures.value)
+    let there = sym (ap (λ t. live_block_at t c.in-Some-Taken.name) c.deref-in-Some-Taken.ensures.value)
     ∙ sym c.block_of.ensures ∙ c.in-Some.is in
     let small = small_size c.self.inside.order c.self.inside.book c.self.inside.objects.items c.self.inside.log.items
     c.in-Some-Taken.name c.in-Some.block c.in-Some.size c.self.invariant there in
@@ -15,7 +15,7 @@ overflow_cast-size c =
 
 pub order_of-requires : goal.order_of-requires
 order_of-requires c =
-    let there = sym (ap (λ t. block_at t c.in-Some-Taken.name) c.deref-in-Some-Taken.ensures.value)
+    let there = sym (ap (λ t. live_block_at t c.in-Some-Taken.name) c.deref-in-Some-Taken.ensures.value)
     ∙ sym c.block_of.ensures ∙ c.in-Some.is in
     small_size c.self.inside.order c.self.inside.book c.self.inside.objects.items c.self.inside.log.items
     c.in-Some-Taken.name c.in-Some.block c.in-Some.size c.self.invariant there
@@ -24,7 +24,7 @@ pub invariant_of-self : goal.invariant_of-self
 invariant_of-self c =
     let newest = sym (ap (λ l. slice_get l (length l - 1)) c.deref.ensures.value) ∙ sym c.newest.ensures
     ∙ c.in-Some-Taken.is ∙ ap (λ r. Some r) c.in-Some-Taken.field-0-is in
-    let there = sym (ap (λ t. block_at t c.in-Some-Taken.name) c.deref-in-Some-Taken.ensures.value)
+    let there = sym (ap (λ t. live_block_at t c.in-Some-Taken.name) c.deref-in-Some-Taken.ensures.value)
     ∙ sym c.block_of.ensures ∙ c.in-Some.is in
     let e = c.give.ensures in
     let l = c.self.inside.objects.ok.0 in
@@ -56,7 +56,7 @@ pub returns-else-order-order_of-clause-untaken : goal.returns-else-order-order_o
 returns-else-order-order_of-clause-untaken c =
     let newest = sym (ap (λ l. slice_get l (length l - 1)) c.deref.ensures.value) ∙ sym c.newest.ensures
     ∙ c.in-Some-Taken.is ∙ ap (λ r. Some r) c.in-Some-Taken.field-0-is in
-    let there = sym (ap (λ t. block_at t c.in-Some-Taken.name) c.deref-in-Some-Taken.ensures.value)
+    let there = sym (ap (λ t. live_block_at t c.in-Some-Taken.name) c.deref-in-Some-Taken.ensures.value)
     ∙ sym c.block_of.ensures ∙ c.in-Some.is in
     let l = c.self.inside.objects.ok.0 in
     let many = c.len.ensures in
