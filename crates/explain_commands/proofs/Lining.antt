@@ -1,17 +1,16 @@
 -- Lines one after another.
 use Rattle.std.proofs.Common.{◌≡◌, ℕ, suc, ◌+◌, ◌≤◌, sym, ap, ◌∙◌, arith, List, [], ◌∷◌, ◌++◌, append_assoc, length}
 use Rattle.std.proofs.Common.{drop, Some, None}
-use Rattle.std.specs.Prelude.{codes, Result, Ok, Err, OnOk}
+use Rattle.std.specs.Prelude.{Result, Ok, Err, OnOk}
 use Rattle.roopl_judge.specs.rpp_tree.declared.tree.Var.{Var}
-use Rattle.std.specs.Fmt.{decimal}
 use Rattle.std.proofs.lemmas.List.{append-nil}
 use Rattle.std.proofs.lemmas.Option.{slice_get_past}
 use Rattle.std.specs.Prelude.{slice_get}
 use Rattle.explain_commands.proofs.Walked.{drop_at, drop_past}
-use Rattle.roopl_judge.specs.rpp_words.Texts.{line_end}
 use Rattle.roopl_judge.specs.rpp_tree.Tree.{Source}
 use Rattle.store_report.specs.roopl_semantics.Store.{Value, Store, object_at}
-use Rattle.store_report.specs.roopl_semantics.Report.{field_lines, object_lines, head_shown, cell_lines, number_shown}
+use Rattle.store_report.specs.roopl_semantics.Report.{field_lines, object_lines}
+use Rattle.store_report.specs.roopl_semantics.Report.{object_text}
 
 pub object_next : (program : Source) (store : Store) (names : List ℕ) (name : ℕ) (rest : List ℕ)
     → object_lines program store names (name ∷ rest) ≡ object_lines program store names (name ∷ [])
@@ -19,8 +18,7 @@ pub object_next : (program : Source) (store : Store) (names : List ℕ) (name : 
 object_next program store names name rest =
     let object = object_at store name in
     ap (λ text. text ++ object_lines program store names rest)
-    (sym (append-nil (number_shown names name ++ codes " " ++ head_shown program object.head ++ codes " count "
-    ++ decimal object.count ++ line_end ++ cell_lines program names object.head object.cells)))
+    (sym (append-nil (object_text program names name object)))
 
 -- the lines of the same fields
 pub lines_of : {E : Type 0} (r : Result (Unit {0}) E) (out old indent : List ℕ) (names : List ℕ) (vars same : List Var)

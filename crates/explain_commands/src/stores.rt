@@ -11,7 +11,7 @@ ghost use Rattle.roopl_judge.specs.class_rules.Members.{class_at};
 ghost use Rattle.roopl_judge.specs.class_rules.Classes.{class_fields, main_of};
 ghost use Rattle.roopl_judge.specs.class_rules.Program.{IsAccepted};
 ghost use Rattle.store_report.specs.roopl_semantics.Store.{object_at, main_name};
-ghost use Rattle.store_report.specs.roopl_semantics.Report.{report as report_in, value_shown, number_shown, field_lines, element_lines, head_shown, cell_lines, object_lines, live_line};
+ghost use Rattle.store_report.specs.roopl_semantics.Report.{report as report_in, value_shown, number_shown, field_lines, element_lines, head_shown, cell_lines, object_lines, live_line, head_line};
 ghost use Rattle.source_meaning.specs.source_store.ValueView.{value_of, values_of, kept_head};
 ghost use Rattle.store_report.specs.Ascii.{HasAsciiName};
 
@@ -217,9 +217,9 @@ fn add_first(
     name: u32,
 ) -> Result<(), AllocError>
     ensures { OnOk result (string_bytes out.new
-        ≡ string_bytes out.old ++ (number_shown names.now.keys name ++ codes " "
-        ++ head_shown (source_of checked.now) (object_at heap.now.store name).head
-        ++ codes " count " ++ decimal (object_at heap.now.store name).count ++ line_end)) }
+        ≡ string_bytes out.old ++ head_line (number_shown names.now.keys name)
+        (head_shown (source_of checked.now) (object_at heap.now.store name).head)
+        (object_at heap.now.store name).count) }
 {
     let count = heap.count_of(name);
     let head = head_at(heap, name);

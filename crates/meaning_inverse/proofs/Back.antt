@@ -4,27 +4,27 @@ use Rattle.std.proofs.Common.{◌∷◌, ◌++◌, length, map, Option, Some, No
 use Rattle.std.proofs.lemmas.Bool.{le-leb}
 use Rattle.std.specs.Prelude.{codes}
 use Rattle.std.specs.Fmt.{decimal}
-use Rattle.meaning_reached.specs.rpp_words.Texts.{line_end}
 use Rattle.meaning_reached.specs.rpp_words.Limits.{IsLimits}
 use Rattle.meaning_reached.specs.rpp_words.declared.input.FieldWord.{FieldWord}
 use Rattle.meaning_reached.specs.rpp_words.declared.input.Limits.{Limits}
 use Rattle.meaning_reached.specs.rpp_tree.declared.tree.Var.{Var}
 use Rattle.meaning_reached.specs.rpp_tree.declared.tree.VarType.{VarType}
-use Rattle.meaning_reached.specs.rpp_tree.declared.tree.VarType.TheVariants as kind
 use Rattle.meaning_reached.specs.rpp_tree.Tree.{Procedure, ClassText, Source}
 use Rattle.meaning_reached.specs.class_rules.Program.{IsAccepted}
 use Rattle.meaning_reached.specs.class_rules.declared.method.MethodId.{MethodId}
 use Rattle.meaning_reached.specs.class_rules.Classes.{class_fields, procedure_at, main_of}
 use Rattle.meaning_reached.specs.inverse_rules.Inverse.{inverse_as, inverse_program}
 use Rattle.meaning_reached.specs.roopl_semantics.Run.{Done, More}
-use Rattle.meaning_reached.specs.roopl_semantics.Store.{Value, Word, Nil, Name, Head, OfClass, OfInts, OfObjects, Object, Store}
-use Rattle.meaning_reached.specs.roopl_semantics.Store.{Binding, State, main_name, zero_value, zero_values, object_named, object_at}
+use Rattle.meaning_reached.specs.roopl_semantics.Store.{Value, Word, Nil, Name, Head, OfClass, OfInts, OfObjects}
+use Rattle.meaning_reached.specs.roopl_semantics.Store.{Object, Store, Binding, State, main_name, zero_value}
+use Rattle.meaning_reached.specs.roopl_semantics.Store.{zero_values, object_named, object_at}
 use Rattle.meaning_reached.specs.roopl_semantics.Execution.{Setting, exec}
-use Rattle.meaning_reached.specs.roopl_semantics.Source.{IsValid, main_fields, main_body, with_input, main_object, starting, within}
-use Rattle.meaning_reached.specs.roopl_semantics.Source.{source}
+use Rattle.meaning_reached.specs.roopl_semantics.Source.{IsValid, main_fields, main_body, with_input, main_object}
+use Rattle.meaning_reached.specs.roopl_semantics.Source.{starting, within, source}
 use Rattle.meaning_inverse.specs.StatesAgree.{renamed_binding}
-use Rattle.meaning_reached.specs.roopl_semantics.Report.{newly_met, walked, numbered, field_lines, head_shown, cell_lines, object_lines}
-use Rattle.meaning_reached.specs.roopl_semantics.Report.{number_shown, live_line, live_count, report}
+use Rattle.meaning_reached.specs.roopl_semantics.Report.{newly_met, walked, numbered, field_lines, head_shown}
+use Rattle.meaning_reached.specs.roopl_semantics.Report.{cell_lines, object_lines, number_shown, live_line, live_count}
+use Rattle.meaning_reached.specs.roopl_semantics.Report.{report, head_line, object_text}
 use Rattle.meaning_reached.proofs.roopl_semantics_laws.MoreFuel.{within_done}
 use Rattle.meaning_reached.proofs.meaning_sound_laws.Accepted.{knows_classes}
 use Rattle.meaning_reached.proofs.meaning_sound_laws.Plainness.{program_plain}
@@ -42,6 +42,7 @@ use Rattle.meaning_inverse.proofs.Law.{leads_back}
 use Rattle.meaning_inverse.proofs.SameTable.{class_kept, fields_kept, main_kept, procedure_kept}
 use Rattle.meaning_inverse.proofs.Turned.{turned_inverse}
 use Rattle.meaning_inverse.proofs.SameRuns.{runs_turned}
+use Rattle.meaning_reached.specs.rpp_tree.declared.tree.VarType.TheVariants as kind
 
 -- ---- the start of the inverse program is that of the program
 
@@ -94,12 +95,11 @@ module _ (program : Source) where
   lines_kept store names [] = refl
   lines_kept store names (n ∷ rest) =
       let o = object_at store n in
-      ap (λ t. number_shown names n ++ codes " " ++ t ++ codes " count " ++ decimal o.count ++ line_end
+      ap (λ t. head_line (number_shown names n) t o.count
       ++ cell_lines other names o.head o.cells ++ object_lines other store names rest) (head_kept o.head)
-      ∙ ap (λ t. number_shown names n ++ codes " " ++ head_shown program o.head ++ codes " count " ++ decimal o.count
-      ++ line_end ++ t ++ object_lines other store names rest) (cells_kept names o.head o.cells)
-      ∙ ap (λ t. number_shown names n ++ codes " " ++ head_shown program o.head ++ codes " count " ++ decimal o.count
-      ++ line_end ++ cell_lines program names o.head o.cells ++ t) (lines_kept store names rest)
+      ∙ ap (λ t. head_line (number_shown names n) (head_shown program o.head) o.count
+      ++ t ++ object_lines other store names rest) (cells_kept names o.head o.cells)
+      ∙ ap (λ t. object_text program names n o ++ t) (lines_kept store names rest)
 
   pub report_kept : (store : Store) → report other store ≡ report program store
   report_kept store =

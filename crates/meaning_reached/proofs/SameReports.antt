@@ -1,7 +1,7 @@
 -- Isomorphic stores have one report if no object id occurs twice.
 use Rattle.std.proofs.Common.{◌≡◌, ℕ, zero, suc, ◌+◌, ◌-◌, refl, sym, ap, subst, ◌∙◌, true, false, Bool, not, ◌||◌}
 use Rattle.std.proofs.Common.{List, [], ◌∷◌, ◌++◌, length, map, Option, Some, None, option_map, unwrap_or, nat_eq}
-use Rattle.std.proofs.Common.{nat_lt, cond, if◌then◌else◌, eqb-true, eq-eqb, ne_eqb, position, codes, arith}
+use Rattle.std.proofs.Common.{nat_lt, cond, if◌then◌else◌, eqb-true, eq-eqb, ne_eqb, position, codes}
 use Rattle.std.proofs.lemmas.Bool.{eqb-false}
 use Rattle.std.proofs.lemmas.List.{map-append}
 use Rattle.std.specs.List.{list_any, position_or_len}
@@ -15,7 +15,7 @@ use Rattle.meaning_sound.specs.roopl_semantics.Source.{main_fields}
 use Rattle.meaning_sound.specs.roopl_semantics.Agreement.{Agree, renamed, renamed_object}
 use Rattle.meaning_sound.specs.roopl_semantics.Report.{Text, newly_met, walked, numbered, number_shown, value_shown, field_lines}
 use Rattle.meaning_sound.specs.roopl_semantics.Report.{element_lines, head_shown, cell_lines, object_lines, live_line, objects_shown}
-use Rattle.meaning_sound.specs.roopl_semantics.Report.{live_count, report}
+use Rattle.meaning_sound.specs.roopl_semantics.Report.{live_count, report, head_line, object_text}
 use Rattle.meaning_sound.specs.rpp_words.Texts.{line_end}
 use Rattle.meaning_sound.specs.roopl_semantics.Laws.{HasNamesOnce as IsUnique}
 use Rattle.meaning_sound.proofs.Stores.{without_other, differs}
@@ -200,17 +200,15 @@ module _ (f back : ℕ → ℕ) (there_and_back : (n : ℕ) → back (f n) ≡ n
     lines_alike program names [] = refl
     lines_alike program names (n ∷ rest) =
         let o = object_at first n in
-        ap (λ x. number_shown (map f names) (f n) ++ codes " " ++ head_shown program x.head ++ codes " count "
-        ++ decimal x.count ++ line_end ++ cell_lines program (map f names) x.head x.cells
+        ap (λ x. object_text program (map f names) (f n) x
         ++ object_lines program second (map f names) (map f rest)) (object_alike n)
-        ∙ ap (λ t. t ++ codes " " ++ head_shown program o.head ++ codes " count " ++ decimal o.count ++ line_end
+        ∙ ap (λ t. head_line t (head_shown program o.head) o.count
         ++ cell_lines program (map f names) o.head (map (renamed f) o.cells)
         ++ object_lines program second (map f names) (map f rest)) (number_alike names n)
-        ∙ ap (λ t. number_shown names n ++ codes " " ++ head_shown program o.head ++ codes " count " ++ decimal o.count
-        ++ line_end ++ t ++ object_lines program second (map f names) (map f rest))
+        ∙ ap (λ t. head_line (number_shown names n) (head_shown program o.head) o.count
+        ++ t ++ object_lines program second (map f names) (map f rest))
         (cells_alike program names o.head o.cells)
-        ∙ ap (λ t. number_shown names n ++ codes " " ++ head_shown program o.head ++ codes " count " ++ decimal o.count
-        ++ line_end ++ cell_lines program names o.head o.cells ++ t) (lines_alike program names rest)
+        ∙ ap (λ t. object_text program names n o ++ t) (lines_alike program names rest)
 
     module _ (main : f main_name ≡ main_name) (same : length first ≡ length second) where
       main_alike : object_at second main_name ≡ renamed_object f (object_at first main_name)

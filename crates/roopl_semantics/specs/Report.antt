@@ -82,15 +82,15 @@ cell_lines program names (OfClass class) cells =
 cell_lines program names (OfInts length) cells = element_lines names 0 cells
 cell_lines program names (OfObjects class length) cells = element_lines names 0 cells
 
--- `#K HEAD count C`, after the number
-abbrev pub head_line : (number : Text) → Source → Head → (count : ℕ) → Text
-head_line number program head count =
-    number ++ codes " " ++ head_shown program head ++ codes " count " ++ decimal count ++ line_end
+-- `NUMBER HEAD count C`
+abbrev pub head_line : (number head : Text) → (count : ℕ) → Text
+head_line number head count =
+    number ++ codes " " ++ head ++ codes " count " ++ decimal count ++ line_end
 
 -- the head line of an object, and the lines of its cells
 abbrev pub object_text : Source → List ℕ → ℕ → Object → Text
 object_text program names name object =
-    head_line (number_shown names name) program object.head object.count
+    head_line (number_shown names name) (head_shown program object.head) object.count
     ++ cell_lines program names object.head object.cells
 
 abbrev pub object_lines : Source → Store → List ℕ → List ℕ → Text

@@ -8,7 +8,7 @@ use Rattle.source_steps.specs.class_rules.Classes.{class_fields}
 use Rattle.source_steps.specs.roopl_semantics.Store.{Value, Word, Nil, Name, Head, OfClass}
 use Rattle.source_steps.specs.roopl_semantics.Store.{OfInts, OfObjects}
 use Rattle.source_steps.specs.roopl_semantics.Store.{Object, Store, object_named}
-use Rattle.source_steps.specs.roopl_semantics.Report.{Text, signed_decimal, head_line}
+use Rattle.source_steps.specs.roopl_semantics.Report.{Text, signed_decimal, head_line, head_shown}
 
 -- V: a word, nil or #K, K being the name
 abbrev pub value_named : Value → Text
@@ -44,7 +44,7 @@ cells_named program (OfObjects class length) cells = elements_named 0 cells
 abbrev pub object_lines : Source → ℕ → Option Object → Text
 object_lines program name None = []
 object_lines program name (Some object) =
-    head_line (codes "#" ++ decimal name) program object.head object.count
+    head_line (codes "#" ++ decimal name) (head_shown program object.head) object.count
     ++ cells_named program object.head object.cells
 
 -- those of so many names from one on

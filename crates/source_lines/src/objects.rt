@@ -5,7 +5,7 @@ ghost use Rattle.source_steps.specs.rpp_words.Texts.{line_end};
 ghost use Rattle.rpp_tree.specs.Views.{source_of};
 ghost use Rattle.source_steps.specs.class_rules.Members.{class_at};
 ghost use Rattle.source_steps.specs.roopl_semantics.Store.{object_named};
-ghost use Rattle.source_steps.specs.roopl_semantics.Report.{head_shown};
+ghost use Rattle.source_steps.specs.roopl_semantics.Report.{head_shown, head_line};
 ghost use Rattle.source_steps.specs.source_store.ValueView.{values_of, kept_head, object_of};
 ghost use Rattle.source_lines.specs.Named.{cells_named, object_lines, objects_from};
 
@@ -62,9 +62,8 @@ fn add_first(
     count: u64,
 ) -> Result<(), Lack>
     ensures { OnOk result (string_bytes out.new
-        ≡ string_bytes out.old ++ (codes "#" ++ decimal name ++ codes " "
-        ++ head_shown (source_of checked.now) (kept_head head) ++ codes " count " ++ decimal count
-        ++ line_end)) }
+        ≡ string_bytes out.old ++ head_line (codes "#" ++ decimal name)
+        (head_shown (source_of checked.now) (kept_head head)) count) }
 {
     let program = checked.program();
     write!(out, "#{name} ")?;

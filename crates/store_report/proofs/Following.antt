@@ -2,9 +2,7 @@
 use Rattle.std.proofs.Common.{◌≡◌, ◌∙◌, sym, ap, subst, refl, ℕ, zero, suc, ◌+◌, ◌<◌, ◌≤◌, true, List, [], ◌∷◌, ◌++◌}
 use Rattle.std.proofs.Common.{map, length, arith}
 use Rattle.std.proofs.lemmas.List.{length-append}
-use Rattle.std.specs.Prelude.{nat_eq, codes}
-use Rattle.std.specs.Fmt.{decimal}
-use Rattle.refine_frame.specs.rpp_words.Texts.{line_end}
+use Rattle.std.specs.Prelude.{nat_eq}
 use Rattle.rpp_tree.specs.declared.tree.VarType.{VarType}
 use Rattle.rpp_tree.specs.Tree.{Source}
 use Rattle.refine_frame.specs.code_conventions.declared.memory.TheConstants.{COUNT_WORD, HEADER_WORDS}
@@ -15,7 +13,8 @@ use Rattle.static_layout.specs.roopl_semantics.Agreement.{renamed}
 use Rattle.static_layout.specs.roopl_semantics.Laws.{holders}
 use Rattle.static_layout.specs.roopl_semantics.Report.{newly_met, walked, numbered, number_shown, field_lines}
 use Rattle.static_layout.specs.roopl_semantics.Report.{head_shown, cell_lines}
-use Rattle.static_layout.specs.roopl_semantics.Report.{object_lines, live_line, live_count, report}
+use Rattle.static_layout.specs.roopl_semantics.Report.{object_lines, live_line, live_count, report, head_line}
+use Rattle.static_layout.specs.roopl_semantics.Report.{object_text}
 use Rattle.static_layout.specs.roopl_semantics.Layout.{head_word}
 use Rattle.static_layout.specs.roopl_semantics.Walk.{types_of, Reference, cell_types, types_at, newly_reached}
 use Rattle.static_layout.specs.roopl_semantics.Walk.{reached_within, reached}
@@ -198,20 +197,17 @@ module _ (program : Source) (store : Store) (base : ℕ) (blocks : List (ℕ × 
   lines_are_told names all (r ∷ references) (n ∷ rest) h =
       let o = object_at store n in
       let tail = lines_told program mem (map A names) references in
-      ap (λ (x : Object). number_shown (map A names) r.at ++ codes " " ++ head_shown program x.head ++ codes " count "
-      ++ decimal x.count ++ line_end ++ cell_lines program (map A names) x.head x.cells ++ tail)
-      (object_is_told r n h.0)
-      ∙ ap (λ a. number_shown (map A names) a ++ codes " " ++ head_shown program o.head ++ codes " count "
-      ++ decimal o.count ++ line_end ++ cell_lines program (map A names) o.head (map (renamed A) o.cells) ++ tail)
+      ap (λ (x : Object). object_text program (map A names) r.at x ++ tail) (object_is_told r n h.0)
+      ∙ ap (λ a. head_line (number_shown (map A names) a) (head_shown program o.head) o.count
+      ++ cell_lines program (map A names) o.head (map (renamed A) o.cells) ++ tail)
       h.0.at
-      ∙ ap (λ z. z ++ codes " " ++ head_shown program o.head ++ codes " count " ++ decimal o.count ++ line_end
+      ∙ ap (λ z. head_line z (head_shown program o.head) o.count
       ++ cell_lines program (map A names) o.head (map (renamed A) o.cells) ++ tail)
       (number_there A Good apart_good names n all h.0.good)
-      ∙ ap (λ z. number_shown names n ++ codes " " ++ head_shown program o.head ++ codes " count " ++ decimal o.count
-      ++ line_end ++ z ++ tail) (lines_there A Good apart_good program names o.head o.cells all
+      ∙ ap (λ z. head_line (number_shown names n) (head_shown program o.head) o.count
+      ++ z ++ tail) (lines_there A Good apart_good program names o.head o.cells all
       (values_good o.cells (good_at n)))
-      ∙ ap (λ z. number_shown names n ++ codes " " ++ head_shown program o.head ++ codes " count " ++ decimal o.count
-      ++ line_end ++ cell_lines program names o.head o.cells ++ z) (lines_are_told names all references rest h.1)
+      ∙ ap (λ z. object_text program names n o ++ z) (lines_are_told names all references rest h.1)
 
   pub report_is_told : (bound : ℕ) → Descending bound store → length store ≤ length mem
       → live_count store ≡ length (numbered store) → report_told program mem ≡ report program store

@@ -8,31 +8,31 @@ use Rattle.std.proofs.lemmas.List.Quantifiers.{position-Some}
 use Rattle.std.specs.Prelude.{nat_eq, not, is_none, ◌&&◌, ◌||◌, position, replicate, codes, if◌then◌else◌}
 use Rattle.std.specs.List.{list_any}
 use Rattle.std.specs.Option.{unwrap_or, option_map}
-use Rattle.std.specs.Fmt.{decimal}
 use Rattle.indexmap.specs.IndexMap.{insert_entry}
-use Rattle.refine_frame.specs.rpp_words.Texts.{line_end}
 use Rattle.rpp_tree.specs.declared.tree.Var.{Var}
 use Rattle.rpp_tree.specs.declared.tree.VarType.{VarType}
-use Rattle.rpp_tree.specs.declared.tree.VarType.TheVariants as type
 use Rattle.rpp_tree.specs.Tree.{Source}
 use Rattle.refine_frame.specs.class_rules.Classes.{class_fields}
 use Rattle.refine_frame.specs.class_rules.Table.{Table, table_of, fields_in}
 use Rattle.refine_frame.proofs.class_rules_laws.Numbers.{length-each_below, each_below-get}
 use Rattle.refine_frame.specs.code_conventions.declared.memory.TheConstants.{COUNT_WORD, HEADER_WORDS}
 use Rattle.static_layout.specs.roopl_semantics.Source.{main_fields}
-use Rattle.static_layout.specs.roopl_semantics.Report.{number_shown, field_lines, element_lines, head_shown, cell_lines, live_line}
+use Rattle.static_layout.specs.roopl_semantics.Report.{number_shown, field_lines, element_lines, head_shown, cell_lines}
+use Rattle.static_layout.specs.roopl_semantics.Report.{live_line, head_line, object_text}
 use Rattle.static_layout.specs.roopl_semantics.Layout.{table_at, table_addresses}
-use Rattle.static_layout.specs.roopl_semantics.Walk.{types_of, Reference, cell_types, types_at, is_new, is_reference_type}
-use Rattle.static_layout.specs.roopl_semantics.Walk.{newly_reached, reached_within, reached}
+use Rattle.static_layout.specs.roopl_semantics.Walk.{types_of, Reference, cell_types, types_at, is_new}
+use Rattle.static_layout.specs.roopl_semantics.Walk.{is_reference_type, newly_reached, reached_within, reached}
 use Rattle.pisa_machine.specs.pisa_isa.Loaded.{statics_at}
 use Rattle.pisa_machine.specs.pisa_isa.Machine.{word_at}
 use Rattle.refine_frame.proofs.meaning_sound_laws.Stores.{same_number, other_number, differs}
 use Rattle.refine_frame.proofs.class_rules_laws.FirstPlaces.{position_cons}
 use Rattle.store_report.specs.declared.leads.Lead.{Lead}
 use Rattle.store_report.specs.Told.{value_told, values_told, head_told, address_of, lines_told, report_told}
+use Rattle.store_report.specs.Told.{object_told}
 use Rattle.store_report.specs.Leads.{Met, lead_of, leads_of, is_reference, address_met, is_unmet, meets_one, met_leads}
 use Rattle.store_report.specs.Leads.{class_at_table, leads_at, meets_behind, goes_on, walks, met_all}
 use Rattle.store_report.specs.Shown.{lead_value, values_by, head_by, addresses_of, cells_by, objects_by, report_by}
+use Rattle.rpp_tree.specs.declared.tree.VarType.TheVariants as type
 
 -- ---- what is among the met
 
@@ -300,15 +300,14 @@ module _ (program : Source) where
     objects_are cells names [] = refl
     objects_are cells names (r ∷ references) =
         let word = word_at cells r.at in
-        let count = decimal (word_at cells (r.at + COUNT_WORD)) in
+        let count = word_at cells (r.at + COUNT_WORD) in
         let rest = objects_by program T tables cells names (map pair references) in
-        ap (λ h. number_shown names r.at ++ codes " " ++ head_shown program h ++ codes " count " ++ count ++ line_end
+        ap (λ h. head_line (number_shown names r.at) (head_shown program h) count
         ++ cells_by T tables cells names r.at (lead_of T r.type) word ++ rest) (head_is r.type word)
-        ∙ ap (λ z. number_shown names r.at ++ codes " " ++ head_shown program (head_told program r.type word)
-        ++ codes " count " ++ count ++ line_end ++ z ++ rest) (cells_are cells names r.at r.type word)
-        ∙ ap (λ z. number_shown names r.at ++ codes " " ++ head_shown program (head_told program r.type word)
-        ++ codes " count " ++ count ++ line_end ++ cell_lines program names (head_told program r.type word)
-        (values_told cells (r.at + HEADER_WORDS) (types_at program cells r)) ++ z) (objects_are cells names references)
+        ∙ ap (λ z. head_line (number_shown names r.at) (head_shown program (head_told program r.type word)) count
+        ++ z ++ rest) (cells_are cells names r.at r.type word)
+        ∙ ap (λ z. object_text program names r.at (object_told program cells r) ++ z)
+        (objects_are cells names references)
 
     addresses_are : (references : List Reference) → addresses_of (map pair references) ≡ map address_of references
     addresses_are [] = refl

@@ -4,15 +4,17 @@ use Rattle.rpp_tree.specs.declared.tree.Var.{Var}
 use Rattle.rpp_tree.specs.Tree.{Source}
 use Rattle.refine_frame.specs.class_rules.Table.{Table, fields_in}
 use Rattle.static_layout.specs.roopl_semantics.Store.{Value, Word, Head, OfClass, OfInts, OfObjects}
-use Rattle.static_layout.specs.roopl_semantics.Report.{Text, number_shown, field_lines, element_lines}
-use Rattle.static_layout.specs.roopl_semantics.Report.{live_line, head_line}
+use Rattle.static_layout.specs.roopl_semantics.Report.{Text, number_shown, field_lines}
+use Rattle.static_layout.specs.roopl_semantics.Report.{element_lines, live_line, head_line}
+use Rattle.static_layout.specs.roopl_semantics.Report.{head_shown}
 use Rattle.pisa_machine.specs.pisa_isa.Loaded.{statics_at}
 use Rattle.pisa_machine.specs.pisa_isa.Machine.{word_at}
-use Rattle.refine_frame.specs.code_conventions.declared.memory.TheConstants.{COUNT_WORD, HEADER_WORDS}
+use Rattle.refine_frame.specs.code_conventions.declared.memory.TheConstants.{COUNT_WORD}
+use Rattle.refine_frame.specs.code_conventions.declared.memory.TheConstants.{HEADER_WORDS}
 use Rattle.store_report.specs.declared.leads.Lead.{Lead}
-use Rattle.store_report.specs.declared.leads.Lead.TheVariants as lead
 use Rattle.store_report.specs.Told.{reference_told}
 use Rattle.store_report.specs.Leads.{Met, address_met, leads_of, class_at_table, met_all}
+use Rattle.store_report.specs.declared.leads.Lead.TheVariants as lead
 
 -- the meaning of a word
 abbrev pub lead_value : Lead → ℕ → Value
@@ -51,7 +53,8 @@ cells_by table tables cells names at (lead.Objects class) word =
 -- the head line and the lines of what is met at an address
 abbrev pub object_by : Source → Table → List ℕ → List ℕ → List ℕ → ℕ × Lead → Text
 object_by program table tables cells names entry =
-    head_line (number_shown names entry.0) program (head_by tables entry.1 (word_at cells entry.0))
+    head_line (number_shown names entry.0)
+    (head_shown program (head_by tables entry.1 (word_at cells entry.0)))
     (word_at cells (entry.0 + COUNT_WORD))
     ++ cells_by table tables cells names entry.0 entry.1 (word_at cells entry.0)
 
