@@ -11,7 +11,7 @@ use crate::branches::{conditional, repetition};
 use code_conventions::memory::EXPRESSION_WORDS;
 use code_conventions::registers::FLAG;
 use code_scope::Scope;
-use expr_uncompute::test_code;
+use refine_expressions::test_code;
 use paired_code::Piece;
 use rpp_tree::tree::Expr;
 use rpp_words::NoMemory;

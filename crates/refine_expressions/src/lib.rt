@@ -5,3 +5,5 @@
 #![tactic(auto)]
 
 pub mod laws;
+
+pub use expr_uncompute::{swap_code, test_code, update_code, value_code};

@@ -1,7 +1,6 @@
 // The lines of objects and arrays.
 ghost use Rattle.std.specs.Prelude.{◌≡◌, ◌++◌, IfOk, OnOk, string_bytes, codes};
 ghost use Rattle.std.specs.Fmt.{decimal};
-ghost use Rattle.source_steps.specs.rpp_words.Texts.{line_end};
 ghost use Rattle.rpp_tree.specs.Views.{source_of};
 ghost use Rattle.source_steps.specs.class_rules.Members.{class_at};
 ghost use Rattle.source_steps.specs.roopl_semantics.Store.{object_named};
