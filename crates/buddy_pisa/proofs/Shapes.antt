@@ -5,7 +5,7 @@ use Rattle.paired_code.specs.Layout.{Equal}
 use Rattle.paired_code.specs.Closed.{Shape, Nothing, One, Then, Turned, Loop, Try, IsShapeMade, HasShape}
 use Rattle.paired_code.proofs.Undone.{AllPlain}
 use Rattle.paired_code.specs.code_conventions.declared.faults.TheConstants.{HEAP_FULL}
-use Rattle.buddy_pisa.specs.declared.rows.TheConstants.{FLAG, EITHER, ZERO}
+use Rattle.buddy_pisa.specs.declared.rows.TheConstants.{LOOP_FLAG, EITHER, ZERO}
 use Rattle.buddy_pisa.specs.Rows.{limits_row, over_row, order_row, bottom_row, first_row, some_row, up_row, above_row}
 use Rattle.buddy_pisa.specs.Rows.{take_row, merge_row, apart_row, half_row, allocator_cells}
 use Rattle.buddy_pisa.proofs.Flags.{plain_limits, plain_over, plain_order, plain_bottom, plain_first, plain_some}
@@ -23,12 +23,12 @@ check_shape = Try (Equal ZERO EITHER) HEAP_FULL
 
 abbrev search_shape : Shape
 search_shape =
-    Loop FLAG (Then (line_shape bottom_row) (within_shape first_row (line_shape some_row)))
+    Loop LOOP_FLAG (Then (line_shape bottom_row) (within_shape first_row (line_shape some_row)))
     (Then (line_shape up_row) (within_shape above_row check_shape))
 
 abbrev halve_shape : Shape
 halve_shape =
-    Loop FLAG (Then (within_shape merge_row (line_shape apart_row)) (line_shape bottom_row))
+    Loop LOOP_FLAG (Then (within_shape merge_row (line_shape apart_row)) (line_shape bottom_row))
     (Then (Turned (line_shape up_row)) (line_shape half_row))
 
 abbrev order_shape : Shape

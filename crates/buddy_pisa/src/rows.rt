@@ -13,7 +13,7 @@ pub const ORDER: u8 = registers::VALUE;
 pub const BLOCK: u8 = registers::BLOCK;
 
 /// The register of the flag of both loops: 1 before and after each.
-pub const FLAG: u8 = 16;
+pub const LOOP_FLAG: u8 = 16;
 
 /// The register that counts the orders above the one that is asked for.
 pub const LEVEL: u8 = 17;
@@ -28,7 +28,7 @@ pub const SIZE: u8 = 19;
 pub const FIRST: u8 = 20;
 
 /// The register of the first block's link: the address of the next block, 0 if there is none.
-pub const LINK: u8 = 21;
+pub const NEXT: u8 = 21;
 
 /// The register that is not 0 if the block is no upper half.
 pub const UPPER: u8 = 22;
@@ -71,24 +71,24 @@ pub const OVER_ROW: [Instruction; 2] = [
 /// From the order: HEAD is the cell of its list's head, SIZE the size of its blocks, and TOP the
 /// cell of the last list's head.
 pub const ORDER_ROW: [Instruction; 5] = [
-    (Op::Xori, FLAG, 0, 0, 1),
-    (Op::Sllvx, SIZE, FLAG, ORDER, 0),
+    (Op::Xori, LOOP_FLAG, 0, 0, 1),
+    (Op::Sllvx, SIZE, LOOP_FLAG, ORDER, 0),
     (Op::Addi, TOP, 0, 0, LIST_HEADS),
     (Op::Add, HEAD, ORDER, 0, 0),
     (Op::Addi, HEAD, 0, 0, LIST_HEADS),
 ];
 
-/// Flips FLAG if LEVEL is 0.
+/// Flips LOOP_FLAG if LEVEL is 0.
 pub const BOTTOM_ROW: [Instruction; 2] = [
-    (Op::Sltx, FLAG, ZERO, LEVEL, 0),
-    (Op::Xori, FLAG, 0, 0, 1),
+    (Op::Sltx, LOOP_FLAG, ZERO, LEVEL, 0),
+    (Op::Xori, LOOP_FLAG, 0, 0, 1),
 ];
 
 /// Exchanges FIRST with the head of the list: FIRST becomes the first block.
 pub const FIRST_ROW: [Instruction; 1] = [(Op::Exch, FIRST, HEAD, 0, 0)];
 
-/// Flips FLAG if the list has a first block.
-pub const SOME_ROW: [Instruction; 1] = [(Op::Sltx, FLAG, ZERO, FIRST, 0)];
+/// Flips LOOP_FLAG if the list has a first block.
+pub const SOME_ROW: [Instruction; 1] = [(Op::Sltx, LOOP_FLAG, ZERO, FIRST, 0)];
 
 /// Goes to the next order: LEVEL and HEAD go up by 1, and SIZE doubles.
 pub const UP_ROW: [Instruction; 3] = [
@@ -112,19 +112,19 @@ pub const TAKE_ROW: [Instruction; 3] = [
 /// the size. The base is taken away since it may have that bit itself.
 pub const MERGE_ROW: [Instruction; 10] = [
     (Op::Exch, FIRST, HEAD, 0, 0),
-    (Op::Exch, LINK, FIRST, 0, 0),
+    (Op::Exch, NEXT, FIRST, 0, 0),
     (Op::Add, FIRST, SIZE, 0, 0),
     (Op::Xor, FIRST, BLOCK, 0, 0),
     (Op::Sub, BLOCK, BASE, 0, 0),
     (Op::Orx, UPPER, BLOCK, SIZE, 0),
     (Op::Xor, UPPER, BLOCK, 0, 0),
     (Op::Add, BLOCK, BASE, 0, 0),
-    (Op::Orx, EITHER, FIRST, LINK, 0),
+    (Op::Orx, EITHER, FIRST, NEXT, 0),
     (Op::Orx, ANY, EITHER, UPPER, 0),
 ];
 
-/// Flips FLAG if ANY is not 0.
-pub const APART_ROW: [Instruction; 1] = [(Op::Sltx, FLAG, ZERO, ANY, 0)];
+/// Flips LOOP_FLAG if ANY is not 0.
+pub const APART_ROW: [Instruction; 1] = [(Op::Sltx, LOOP_FLAG, ZERO, ANY, 0)];
 
 /// The block becomes the only one of the list, and its upper half the block.
 pub const HALF_ROW: [Instruction; 3] = [
