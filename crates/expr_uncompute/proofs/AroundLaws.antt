@@ -27,9 +27,11 @@ use Rattle.expr_uncompute.proofs.Updates.{found_traps_place, found_traps_value, 
 use Rattle.expr_uncompute.proofs.Updates.{both_traps_second}
 use Rattle.expr_uncompute.proofs.FoundLaws.{place_held, place_fails, place_shares, value_held, places_held}
 use Rattle.expr_uncompute.proofs.FoundLaws.{places_share}
+use Rattle.register_expressions.specs.code_conventions.declared.registers.TheConstants.{FRAME}
 
 -- the memory after a change is ready too
-ready_again : (free n : ℕ) (m : Memory) (cells' : List ℕ) → Ready free n m → Changes (memory_reg m 4 + free) m.cells cells'
+ready_again : (free n : ℕ) (m : Memory) (cells' : List ℕ) → Ready free n m
+    → Changes (memory_reg m FRAME + free) m.cells cells'
     → Ready free n (record m { cells = cells' })
 ready_again free n m cells' h c = record {
   count = h.count;
@@ -62,17 +64,17 @@ module _ (spot : List ℕ → Spot) (free : ℕ) where
   module _ (target : Lvalue) (mid : List Symbol) where
     place_again : (m : Memory) (a : ℕ) → CanEvaluate spot free (place_words target) (lvalue_read target) (Null 0) m
         → place_address spot (bases_of m) m.cells target ≡ Ok a
-        → (cells' : List ℕ) → Changes (memory_reg m 4 + free) m.cells cells'
-        → UpdateStays spot (bases_of m) (memory_reg m 4 + free) target (Null 0) m.cells cells'
+        → (cells' : List ℕ) → Changes (memory_reg m FRAME + free) m.cells cells'
+        → UpdateStays spot (bases_of m) (memory_reg m FRAME + free) target (Null 0) m.cells cells'
         → Goes (found_place_cells spot free target) (found_place_steps target) (record m { cells = cells' })
         (found_memory 0 a 0 (placed spot free (bases_of m) target 0 cells') m)
-        × Filled (memory_reg m 4 + free) (place_words target) cells' (placed spot free (bases_of m) target 0 cells')
-        × Changes (memory_reg m 4 + free) (placed spot free (bases_of m) target 0 m.cells)
+        × Filled (memory_reg m FRAME + free) (place_words target) cells' (placed spot free (bases_of m) target 0 cells')
+        × Changes (memory_reg m FRAME + free) (placed spot free (bases_of m) target 0 m.cells)
         (placed spot free (bases_of m) target 0 cells')
     place_again m a r n cells' c s =
         let h = ready_again free (place_words target) m cells' r.ready c in (
           place_held spot free (record m { cells = cells' }) target (index_of target) (Null 0) a h s.place_sees
-              (index_seen spot (bases_of m) (memory_reg m 4 + free) target cells' s.place_sees) tt
+              (index_seen spot (bases_of m) (memory_reg m FRAME + free) target cells' s.place_sees) tt
               (place_kept spot free m target m.cells cells' a s.place_same n) s.apart,
           place_fills spot free (bases_of m) target cells' c.words s.place_sees,
           place_changes spot free (bases_of m) target m.cells cells' r.first s.place_sees s.place_same c,
@@ -81,16 +83,16 @@ module _ (spot : List ℕ → Spot) (free : ℕ) where
     pub place_around : PlaceAroundLaw spot free target mid (around (found_place_cells spot free target) mid)
     place_around = record {
       encloses = λ im d m r a n apart.
-          encloses (found_place_cells spot free target) mid (found_place_steps target) (memory_reg m 4 + free)
+          encloses (found_place_cells spot free target) mid (found_place_steps target) (memory_reg m FRAME + free)
           (place_words target) 0 a 0 m (placed spot free (bases_of m) target 0)
-          (UpdateStays spot (bases_of m) (memory_reg m 4 + free) target (Null 0) m.cells)
+          (UpdateStays spot (bases_of m) (memory_reg m FRAME + free) target (Null 0) m.cells)
           (place_held spot free m target (index_of target) (Null 0) a r.ready r.first
-          (index_seen spot (bases_of m) (memory_reg m 4 + free) target m.cells r.first) tt n apart)
+          (index_seen spot (bases_of m) (memory_reg m FRAME + free) target m.cells r.first) tt n apart)
           (place_fills spot free (bases_of m) target m.cells r.ready.words r.first)
           (place_again m a r n) im d;
       place_faults = λ im d m r c n. place_fails spot free m target c _ mid r.ready r.first n im d;
       sharing_faults = λ im d m r a n shared. place_shares spot free m target (index_of target) (Null 0) a mid r.ready
-          r.first (index_seen spot (bases_of m) (memory_reg m 4 + free) target m.cells r.first) tt n shared im d;
+          r.first (index_seen spot (bases_of m) (memory_reg m FRAME + free) target m.cells r.first) tt n shared im d;
     }
 
   -- ---- a place and a value
@@ -99,13 +101,13 @@ module _ (spot : List ℕ → Spot) (free : ℕ) where
     value_again : (m : Memory) (a v : ℕ) → CanEvaluate spot free (place_words target + words value) (lvalue_read target)
         value m
         → place_address spot (bases_of m) m.cells target ≡ Ok a → number spot (bases_of m) m.cells value ≡ Ok v
-        → (cells' : List ℕ) → Changes (memory_reg m 4 + free) m.cells cells'
-        → UpdateStays spot (bases_of m) (memory_reg m 4 + free) target value m.cells cells'
+        → (cells' : List ℕ) → Changes (memory_reg m FRAME + free) m.cells cells'
+        → UpdateStays spot (bases_of m) (memory_reg m FRAME + free) target value m.cells cells'
         → Goes (found_value_cells spot free target value) (found_value_steps target value) (record m { cells = cells' })
         (found_memory v a 0 (filled spot free (bases_of m) target value cells') m)
-        × Filled (memory_reg m 4 + free) (place_words target + words value) cells'
+        × Filled (memory_reg m FRAME + free) (place_words target + words value) cells'
         (filled spot free (bases_of m) target value cells')
-        × Changes (memory_reg m 4 + free) (filled spot free (bases_of m) target value m.cells)
+        × Changes (memory_reg m FRAME + free) (filled spot free (bases_of m) target value m.cells)
         (filled spot free (bases_of m) target value cells')
     value_again m a v r na nv cells' c s =
         let h = ready_again free (place_words target + words value) m cells' r.ready c in
@@ -123,9 +125,10 @@ module _ (spot : List ℕ → Spot) (free : ℕ) where
     pub value_around : ValueAroundLaw spot free target value mid (around (found_value_cells spot free target value) mid)
     value_around = record {
       encloses = λ im d m r a v na nv apart.
-          encloses (found_value_cells spot free target value) mid (found_value_steps target value) (memory_reg m 4 + free)
+          encloses (found_value_cells spot free target value) mid (found_value_steps target value)
+          (memory_reg m FRAME + free)
           (place_words target + words value) v a 0 m (filled spot free (bases_of m) target value)
-          (UpdateStays spot (bases_of m) (memory_reg m 4 + free) target value m.cells)
+          (UpdateStays spot (bases_of m) (memory_reg m FRAME + free) target value m.cells)
           (value_held spot free m target value a v r na nv apart)
           (value_fills spot free (bases_of m) target value m.cells
           (fit_from spot free m target (words value) r.ready r.first) r.second)
@@ -148,13 +151,13 @@ module _ (spot : List ℕ → Spot) (free : ℕ) where
         (lvalue_read source)
         (lvalue_read target) m → place_address spot (bases_of m) m.cells source ≡ Ok a
         → place_address spot (bases_of m) m.cells target ≡ Ok a'
-        → (cells' : List ℕ) → Changes (memory_reg m 4 + free) m.cells cells'
-        → PlacesStay spot (bases_of m) (memory_reg m 4 + free) source target m.cells cells'
+        → (cells' : List ℕ) → Changes (memory_reg m FRAME + free) m.cells cells'
+        → PlacesStay spot (bases_of m) (memory_reg m FRAME + free) source target m.cells cells'
         → Goes (found_places_cells spot free source target) (found_places_steps source target)
         (record m { cells = cells' }) (found_memory 0 a a' (both_placed spot free (bases_of m) source target cells') m)
-        × Filled (memory_reg m 4 + free) (place_words source + place_words target) cells'
+        × Filled (memory_reg m FRAME + free) (place_words source + place_words target) cells'
         (both_placed spot free (bases_of m) source target cells')
-        × Changes (memory_reg m 4 + free) (both_placed spot free (bases_of m) source target m.cells)
+        × Changes (memory_reg m FRAME + free) (both_placed spot free (bases_of m) source target m.cells)
         (both_placed spot free (bases_of m) source target cells')
     places_again m a a' r na na' cells' c s =
         let h = ready_again free (place_words source + place_words target) m cells' r.ready c in
@@ -173,9 +176,10 @@ module _ (spot : List ℕ → Spot) (free : ℕ) where
         (around (found_places_cells spot free source target) mid)
     places_around = record {
       encloses = λ im d m r a a' na na' apart.
-          encloses (found_places_cells spot free source target) mid (found_places_steps source target) (memory_reg m 4 + free)
+          encloses (found_places_cells spot free source target) mid (found_places_steps source target)
+          (memory_reg m FRAME + free)
           (place_words source + place_words target) 0 a a' m (both_placed spot free (bases_of m) source target)
-          (PlacesStay spot (bases_of m) (memory_reg m 4 + free) source target m.cells)
+          (PlacesStay spot (bases_of m) (memory_reg m FRAME + free) source target m.cells)
           (places_held spot free m source target a a' r na na' apart)
           (places_fill spot free (bases_of m) source target m.cells
           (fit_from spot free m source (place_words target) r.ready r.first) r.second)

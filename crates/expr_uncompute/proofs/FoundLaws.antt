@@ -4,7 +4,7 @@ use Rattle.std.proofs.Common.{◌≡◌, ℕ, ◌+◌, Bool, true, false, List, 
 use Rattle.std.specs.Prelude.{Ok, Err}
 use Rattle.rpp_tree.specs.Tree.{Expression, Lvalue}
 use Rattle.register_expressions.specs.pisa_isa.Machine.{Memory}
-use Rattle.register_expressions.specs.code_conventions.declared.registers.TheConstants.{OTHER_PLACE, PLACE}
+use Rattle.register_expressions.specs.code_conventions.declared.registers.TheConstants.{OTHER_PLACE, PLACE, FRAME}
 use Rattle.register_expressions.specs.paired_code.declared.part.Symbol.{Symbol}
 use Rattle.register_expressions.specs.paired_code.Machine.{Image, memory_reg}
 use Rattle.register_expressions.specs.refine_form.declared.spot.Spot.{Spot}
@@ -102,18 +102,18 @@ module _ (spot : List ℕ → Spot) (free : ℕ) (m : Memory) where
       m)
   place_held target e e' a h s t t' n apart =
       let ys : List ℕ = placed spot free (bases_of m) target 0 m.cells in
-      let below : Agree (memory_reg m 4 + free) m.cells ys = placed_below spot free (bases_of m) target m.cells in
+      let below : Agree (memory_reg m FRAME + free) m.cells ys = placed_below spot free (bases_of m) target m.cells in
       let count : length ys ≡ length m.cells = placed_length spot free (bases_of m) target m.cells in
       let fits = h.inside in
       let small = h.small in
       goes_seq (place_found target a h s n)
       (goes_to refl (shown_as (place_words target) h 0 a 0 ys) (shown_as (place_words target) h 0 a 0 ys)
-      (apart_goes spot (bases_of m) (memory_reg m 4 + free) (memory_reg m) 0 a 0 ys
+      (apart_goes spot (bases_of m) (memory_reg m FRAME + free) (memory_reg m) 0 a 0 ys
       (omega arith) (omega arith) target e e'
-      (sees_same spot (bases_of m) (memory_reg m 4 + free) m.cells ys below (lvalue_read target) s)
-      (sees_same spot (bases_of m) (memory_reg m 4 + free) m.cells ys below e t)
-      (sees_same spot (bases_of m) (memory_reg m 4 + free) m.cells ys below e' t')
-      (shares_same spot (bases_of m) (memory_reg m 4 + free) m.cells ys below target e e' s t t' ∙ apart)))
+      (sees_same spot (bases_of m) (memory_reg m FRAME + free) m.cells ys below (lvalue_read target) s)
+      (sees_same spot (bases_of m) (memory_reg m FRAME + free) m.cells ys below e t)
+      (sees_same spot (bases_of m) (memory_reg m FRAME + free) m.cells ys below e' t')
+      (shares_same spot (bases_of m) (memory_reg m FRAME + free) m.cells ys below target e e' s t t' ∙ apart)))
 
   -- or it is one of them, whatever is to be done with the place
   pub place_shares : (target : Lvalue) (e e' : Expression) (a : ℕ) (mid : List Symbol)
@@ -124,18 +124,18 @@ module _ (spot : List ℕ → Spot) (free : ℕ) (m : Memory) where
       ++ apart_cells spot target e e') mid) d m 16 (place_steps target + apart_steps target e e')
   place_shares target e e' a mid h s t t' n shared im d =
       let ys : List ℕ = placed spot free (bases_of m) target 0 m.cells in
-      let below : Agree (memory_reg m 4 + free) m.cells ys = placed_below spot free (bases_of m) target m.cells in
+      let below : Agree (memory_reg m FRAME + free) m.cells ys = placed_below spot free (bases_of m) target m.cells in
       let count : length ys ≡ length m.cells = placed_length spot free (bases_of m) target m.cells in
       let fits = h.inside in
       let small = h.small in
       let traps : Traps (apart_cells spot target e e') (apart_steps target e e') 16
       (mem (bases_of m) (memory_reg m) (keeping 0 a 0) ys) =
-      apart_traps spot (bases_of m) (memory_reg m 4 + free) (memory_reg m) 0 a 0 ys
+      apart_traps spot (bases_of m) (memory_reg m FRAME + free) (memory_reg m) 0 a 0 ys
       (omega arith) (omega arith) target e e'
-      (sees_same spot (bases_of m) (memory_reg m 4 + free) m.cells ys below (lvalue_read target) s)
-      (sees_same spot (bases_of m) (memory_reg m 4 + free) m.cells ys below e t)
-      (sees_same spot (bases_of m) (memory_reg m 4 + free) m.cells ys below e' t')
-      (shares_same spot (bases_of m) (memory_reg m 4 + free) m.cells ys below target e e' s t t' ∙ shared) in
+      (sees_same spot (bases_of m) (memory_reg m FRAME + free) m.cells ys below (lvalue_read target) s)
+      (sees_same spot (bases_of m) (memory_reg m FRAME + free) m.cells ys below e t)
+      (sees_same spot (bases_of m) (memory_reg m FRAME + free) m.cells ys below e' t')
+      (shares_same spot (bases_of m) (memory_reg m FRAME + free) m.cells ys below target e e' s t t' ∙ shared) in
       (traps_around mid (traps_then (place_found target a h s n)
       (subst (λ z. Traps (apart_cells spot target e e') (apart_steps target e e') 16 z)
       (shown_as (place_words target) h 0 a 0 ys) traps))).runs im d
@@ -156,17 +156,17 @@ module _ (spot : List ℕ → Spot) (free : ℕ) (m : Memory) where
       let count = k.count in
       let fits = h.ready.inside in
       let small = h.ready.small in
-      let i = index_seen spot (bases_of m) (memory_reg m 4 + free) target m.cells h.first in
-      let j = index_seen spot (bases_of m) (memory_reg m 4 + free) other m.cells h.second in
+      let i = index_seen spot (bases_of m) (memory_reg m FRAME + free) target m.cells h.first in
+      let j = index_seen spot (bases_of m) (memory_reg m FRAME + free) other m.cells h.second in
       goes_seq (places_found target other a a' h na na')
       (goes_to refl (shown_as (place_words target + place_words other) h.ready 0 a a' ys)
       (shown_as (place_words target + place_words other) h.ready 0 a a' ys)
-      (apart_goes spot (bases_of m) (memory_reg m 4 + free) (memory_reg m) 0 a a' ys (omega arith) (omega arith) other
-      (index_of target) (index_of other) (sees_same spot (bases_of m) (memory_reg m 4 + free) m.cells ys k.below
-      (lvalue_read other) h.second) (sees_same spot (bases_of m) (memory_reg m 4 + free) m.cells ys k.below
-      (index_of target) i) (sees_same spot (bases_of m) (memory_reg m 4 + free) m.cells ys k.below (index_of other) j)
-      (shares_same spot (bases_of m) (memory_reg m 4 + free) m.cells ys k.below other (index_of target) (index_of other)
-      h.second i j ∙ apart)))
+      (apart_goes spot (bases_of m) (memory_reg m FRAME + free) (memory_reg m) 0 a a' ys (omega arith) (omega arith) other
+      (index_of target) (index_of other) (sees_same spot (bases_of m) (memory_reg m FRAME + free) m.cells ys k.below
+      (lvalue_read other) h.second) (sees_same spot (bases_of m) (memory_reg m FRAME + free) m.cells ys k.below
+      (index_of target) i) (sees_same spot (bases_of m) (memory_reg m FRAME + free) m.cells ys k.below (index_of other) j)
+      (shares_same spot (bases_of m) (memory_reg m FRAME + free) m.cells ys k.below other (index_of target)
+      (index_of other) h.second i j ∙ apart)))
 
   pub places_share : (target other : Lvalue) (a a' : ℕ) (mid : List Symbol)
       → CanEvaluate spot free (place_words target + place_words other) (lvalue_read target) (lvalue_read other) m
@@ -183,16 +183,17 @@ module _ (spot : List ℕ → Spot) (free : ℕ) (m : Memory) where
       let count = k.count in
       let fits = h.ready.inside in
       let small = h.ready.small in
-      let i = index_seen spot (bases_of m) (memory_reg m 4 + free) target m.cells h.first in
-      let j = index_seen spot (bases_of m) (memory_reg m 4 + free) other m.cells h.second in
+      let i = index_seen spot (bases_of m) (memory_reg m FRAME + free) target m.cells h.first in
+      let j = index_seen spot (bases_of m) (memory_reg m FRAME + free) other m.cells h.second in
       let traps : Traps (apart_cells spot other (index_of target) (index_of other))
       (apart_steps other (index_of target) (index_of other)) 16 (mem (bases_of m) (memory_reg m) (keeping 0 a a') ys) =
-      apart_traps spot (bases_of m) (memory_reg m 4 + free) (memory_reg m) 0 a a' ys (omega arith) (omega arith) other
-      (index_of target) (index_of other) (sees_same spot (bases_of m) (memory_reg m 4 + free) m.cells ys k.below
-      (lvalue_read other) h.second) (sees_same spot (bases_of m) (memory_reg m 4 + free) m.cells ys k.below (index_of target)
-      i) (sees_same spot (bases_of m) (memory_reg m 4 + free) m.cells ys k.below (index_of other) j)
-      (shares_same spot (bases_of m) (memory_reg m 4 + free) m.cells ys k.below other (index_of target) (index_of other)
-      h.second i j ∙ shared) in
+      apart_traps spot (bases_of m) (memory_reg m FRAME + free) (memory_reg m) 0 a a' ys (omega arith) (omega arith) other
+      (index_of target) (index_of other) (sees_same spot (bases_of m) (memory_reg m FRAME + free) m.cells ys k.below
+      (lvalue_read other) h.second) (sees_same spot (bases_of m) (memory_reg m FRAME + free) m.cells ys k.below
+      (index_of target)
+      i) (sees_same spot (bases_of m) (memory_reg m FRAME + free) m.cells ys k.below (index_of other) j)
+      (shares_same spot (bases_of m) (memory_reg m FRAME + free) m.cells ys k.below other (index_of target)
+      (index_of other) h.second i j ∙ shared) in
       (traps_around mid (traps_then (places_found target other a a' h na na')
       (subst (λ z. Traps (apart_cells spot other (index_of target) (index_of other))
       (apart_steps other (index_of target) (index_of other)) 16 z)

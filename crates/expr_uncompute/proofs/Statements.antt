@@ -34,6 +34,7 @@ use Rattle.expr_uncompute.proofs.Updates.{place_low, update_goes, update_traps_p
 use Rattle.expr_uncompute.proofs.Updates.{update_traps_sharing, swap_goes, swap_traps_first, swap_traps_second}
 use Rattle.expr_uncompute.proofs.Updates.{swap_traps_sharing}
 use Rattle.register_expressions.specs.code_conventions.declared.faults.TheConstants.{SHARED_ARRAY}
+use Rattle.register_expressions.specs.code_conventions.declared.registers.TheConstants.{FRAME}
 
 updated_word : (op : UpdateOp) (x v : ℕ) → x < 2 ^ 32 → v < 2 ^ 32 → updated op x v < 2 ^ 32
 updated_word update.Add x v h k = omega arith
@@ -80,10 +81,10 @@ module _ (spot : List ℕ → Spot) (free : ℕ) (m : Memory) where
   b = bases_of m
 
   abbrev low : ℕ
-  low = memory_reg m 4 + free
+  low = memory_reg m FRAME + free
 
   pub fit_from : (target : Lvalue) (n : ℕ) → Ready free (place_words target + n) m
-      → Sees spot (bases_of m) (memory_reg m 4 + free) m.cells (lvalue_read target)
+      → Sees spot (bases_of m) (memory_reg m FRAME + free) m.cells (lvalue_read target)
       → FitFrom spot free (bases_of m) target n m.cells
   fit_from target n h s = record {
     all = h.words;
@@ -119,8 +120,9 @@ module _ (spot : List ℕ → Spot) (free : ℕ) (m : Memory) where
   )
 
   -- one word written below
-  fit_set : (target : Lvalue) (n a y : ℕ) → FitFrom spot free (bases_of m) target n m.cells → a < memory_reg m 4 + free
-      → y < 2 ^ 32 → Sees spot (bases_of m) (memory_reg m 4 + free) (slice_set m.cells a y) (lvalue_read target)
+  fit_set : (target : Lvalue) (n a y : ℕ) → FitFrom spot free (bases_of m) target n m.cells
+      → a < memory_reg m FRAME + free → y < 2 ^ 32
+      → Sees spot (bases_of m) (memory_reg m FRAME + free) (slice_set m.cells a y) (lvalue_read target)
       → FitFrom spot free (bases_of m) target n (slice_set m.cells a y)
   fit_set target n a y h l w s = record {
     all = words_set m.cells a y h.all w;
@@ -130,8 +132,9 @@ module _ (spot : List ℕ → Spot) (free : ℕ) (m : Memory) where
     empty = λ k lo hi. get_or-set_other m.cells a k y 0 (λ e. omega arith) ∙ h.empty k lo hi;
   }
 
-  fit_two : (target : Lvalue) (n a y a' y' : ℕ) → FitFrom spot free (bases_of m) target n m.cells → a < memory_reg m 4 + free
-      → y < 2 ^ 32 → a' < memory_reg m 4 + free → y' < 2 ^ 32 → Sees spot (bases_of m) (memory_reg m 4 + free)
+  fit_two : (target : Lvalue) (n a y a' y' : ℕ) → FitFrom spot free (bases_of m) target n m.cells
+      → a < memory_reg m FRAME + free
+      → y < 2 ^ 32 → a' < memory_reg m FRAME + free → y' < 2 ^ 32 → Sees spot (bases_of m) (memory_reg m FRAME + free)
       (slice_set (slice_set m.cells a y) a' y') (lvalue_read target)
       → FitFrom spot free (bases_of m) target n (slice_set (slice_set m.cells a y) a' y')
   fit_two target n a y a' y' h l w l' w' s = record {
@@ -145,12 +148,12 @@ module _ (spot : List ℕ → Spot) (free : ℕ) (m : Memory) where
 
   module _ (op : UpdateOp) (target : Lvalue) (value : Expression)
       (ready : Ready free (place_words target + words value) m)
-      (place_sees : Sees spot (bases_of m) (memory_reg m 4 + free) m.cells (lvalue_read target))
-      (value_sees : Sees spot (bases_of m) (memory_reg m 4 + free) m.cells value) (im : Image) where
+      (place_sees : Sees spot (bases_of m) (memory_reg m FRAME + free) m.cells (lvalue_read target))
+      (value_sees : Sees spot (bases_of m) (memory_reg m FRAME + free) m.cells value) (im : Image) where
     -- forward the update is made, backward that by the inverse operator
     pub update_law : (d : Bool) (a v : ℕ) → place_address spot (bases_of m) m.cells target ≡ Ok a
         → number spot (bases_of m) m.cells value ≡ Ok v → update_shares spot (bases_of m) m.cells target value ≡ false
-        → UpdateStays spot (bases_of m) (memory_reg m 4 + free) target value m.cells (updated_at d op a v m.cells)
+        → UpdateStays spot (bases_of m) (memory_reg m FRAME + free) target value m.cells (updated_at d op a v m.cells)
         → Runs im (update_cells spot free op target value) d m
         (Done (record m { cells = updated_at d op a v m.cells }) (update_steps target value))
     update_law d a v na nv apart stays = run_cells (place_words target + words value) ready im d _ _ _ (either d stays)
@@ -158,18 +161,19 @@ module _ (spot : List ℕ → Spot) (free : ℕ) (m : Memory) where
         fit : FitFrom spot free (bases_of m) target (words value) m.cells
         fit = fit_from target (words value) ready place_sees
 
-        al : a < memory_reg m 4 + free
+        al : a < memory_reg m FRAME + free
         al = place_low spot free (bases_of m) target a m.cells place_sees na
 
         vw : v < 2 ^ 32
-        vw = number_word spot (bases_of m) (memory_reg m 4 + free) m.cells ready.words value value_sees v nv
+        vw = number_word spot (bases_of m) (memory_reg m FRAME + free) m.cells ready.words value value_sees v nv
 
-        fit' : (d : Bool) → UpdateStays spot (bases_of m) (memory_reg m 4 + free) target value m.cells (updated_at d op a v m.cells)
+        fit' : (d : Bool) → UpdateStays spot (bases_of m) (memory_reg m FRAME + free) target value m.cells
+            (updated_at d op a v m.cells)
             → FitFrom spot free (bases_of m) target (words value) (updated_at d op a v m.cells)
         fit' d s = fit_set target (words value) a _ fit al (updated_word (turned_operator d op) (slice_index m.cells a) v
             (ready.words a) vw) s.place_sees
 
-        either : (d : Bool) → UpdateStays spot (bases_of m) (memory_reg m 4 + free) target value m.cells
+        either : (d : Bool) → UpdateStays spot (bases_of m) (memory_reg m FRAME + free) target value m.cells
             (updated_at d op a v m.cells) → Runs im (update_cells spot free op target value) d
             (mem (bases_of m) (memory_reg m) (keeping 0 0 0) m.cells)
             (Done (mem (bases_of m) (memory_reg m) (keeping 0 0 0) (updated_at d op a v m.cells)) (update_steps target value))
@@ -220,13 +224,13 @@ module _ (spot : List ℕ → Spot) (free : ℕ) (m : Memory) where
         (fit_from target (words value) ready place_sees) value_sees na nv shared)
 
   module _ (left right : Lvalue) (ready : Ready free (place_words left + place_words right) m)
-      (left_sees : Sees spot (bases_of m) (memory_reg m 4 + free) m.cells (lvalue_read left))
-      (right_sees : Sees spot (bases_of m) (memory_reg m 4 + free) m.cells (lvalue_read right)) (im : Image) where
+      (left_sees : Sees spot (bases_of m) (memory_reg m FRAME + free) m.cells (lvalue_read left))
+      (right_sees : Sees spot (bases_of m) (memory_reg m FRAME + free) m.cells (lvalue_read right)) (im : Image) where
     -- either way the words are swapped; one cell stays
     pub swap_law : (d : Bool) (p q : ℕ) → place_address spot (bases_of m) m.cells left ≡ Ok p
         → place_address spot (bases_of m) m.cells right ≡ Ok q
         → swap_shares spot (bases_of m) m.cells left right ≡ false
-        → BothStay spot (bases_of m) (memory_reg m 4 + free) left right m.cells (swapped_at p q m.cells)
+        → BothStay spot (bases_of m) (memory_reg m FRAME + free) left right m.cells (swapped_at p q m.cells)
         → Runs im (swap_cells spot free left right) d m (Done (record m { cells = swapped_at p q m.cells })
         (swap_steps left right))
     swap_law d p q np nq apart s = run_cells (place_words left + place_words right) ready im d _ _ _ (either d)
@@ -237,10 +241,10 @@ module _ (spot : List ℕ → Spot) (free : ℕ) (m : Memory) where
         fit : FitFrom spot free (bases_of m) left (place_words right) m.cells
         fit = fit_from left (place_words right) ready left_sees
 
-        pl : p < memory_reg m 4 + free
+        pl : p < memory_reg m FRAME + free
         pl = place_low spot free (bases_of m) left p m.cells left_sees np
 
-        ql : q < memory_reg m 4 + free
+        ql : q < memory_reg m FRAME + free
         ql = place_low spot free (bases_of m) right q m.cells right_sees nq
 
         fit' : FitFrom spot free (bases_of m) left (place_words right) (swapped_at p q m.cells)

@@ -5,7 +5,7 @@ use Rattle.std.proofs.Common.{arith}
 use Rattle.std.specs.Prelude.{slice_index, bit_xor, if◌then◌else◌, Result, Ok, Err}
 use Rattle.rpp_tree.specs.Tree.{Expression}
 use Rattle.register_expressions.specs.pisa_isa.Machine.{Memory}
-use Rattle.register_expressions.specs.code_conventions.declared.registers.TheConstants.{TRUTH}
+use Rattle.register_expressions.specs.code_conventions.declared.registers.TheConstants.{TRUTH, FRAME}
 use Rattle.register_expressions.specs.paired_code.Machine.{Image, memory_reg, memory_with_reg}
 use Rattle.register_expressions.specs.paired_code.Pieces.{Done, Trapped, Runs}
 use Rattle.register_expressions.specs.paired_code.declared.part.Symbol.{Symbol}
@@ -80,7 +80,7 @@ target_set b f s zs i x at30 = refl
 target_set b f s zs i x at31 = refl
 
 pub fit_of : (spot : List ℕ → Spot) (free : ℕ) (e : Expression) (m : Memory) → Ready free (words e) m
-    → Sees spot (bases_of m) (memory_reg m 4 + free) m.cells e → Fit spot free (bases_of m) e 0 m.cells
+    → Sees spot (bases_of m) (memory_reg m FRAME + free) m.cells e → Fit spot free (bases_of m) e 0 m.cells
 fit_of spot free e m h s = record {
   all = h.words;
   sees = s;
@@ -89,7 +89,8 @@ fit_of spot free e m h s = record {
 }
 
 module _ (spot : List ℕ → Spot) (free into : ℕ) (e : Expression) (m : Memory) (target : Target into)
-    (ready : Ready free (words e) m) (sees : Sees spot (bases_of m) (memory_reg m 4 + free) m.cells e) (im : Image) (d : Bool)
+    (ready : Ready free (words e) m) (sees : Sees spot (bases_of m) (memory_reg m FRAME + free) m.cells e) (im : Image)
+    (d : Bool)
   where
     abbrev b : Bases
     b = bases_of m

@@ -8,7 +8,7 @@ use Rattle.std.proofs.lemmas.Int.{ints}
 use Rattle.refine_heap.specs.rpp_words.Words.{is_less}
 use Rattle.refine_heap.specs.pisa_isa.Table.{word_of}
 use Rattle.refine_heap.specs.pisa_isa.Machine.{Memory}
-use Rattle.refine_heap.specs.code_conventions.declared.registers.TheConstants.{FIRST_WORD}
+use Rattle.refine_heap.specs.code_conventions.declared.registers.TheConstants.{FIRST_WORD, OUTCOME}
 use Rattle.refine_heap.specs.paired_code.Machine.{Image}
 use Rattle.refine_heap.specs.paired_code.Pieces.{Done, Trapped, Runs}
 use Rattle.refine_heap.specs.paired_code.Laws.{Rounds, leaves, ends_in_tail, again}
@@ -113,26 +113,26 @@ module _ (b : Bases) (f : ℕ → ℕ) (v p st en : ℕ) (zs : List ℕ) (order 
 
   -- from a cell on, r cells are left
   up : (im : Image) (r w o : ℕ) → w + r ≡ en → st ≤ w → word_of (nat_eq st w) ≡ o
-      → ((a : ℕ) → w ≤ a → a < en → slice_index zs a ≡ 0) → Rounds im 10 walk_head walk_tail false (walking o w)
+      → ((a : ℕ) → w ≤ a → a < en → slice_index zs a ≡ 0) → Rounds im OUTCOME walk_head walk_tail false (walking o w)
       (Done (walking 1 en) (5 + 13 * r))
   up im zero w o e h eo z =
       let same : w ≡ en = omega arith in
-      subst (λ x. Rounds im 10 walk_head walk_tail false (walking o w) (Done (walking 1 x) 5)) same
+      subst (λ x. Rounds im OUTCOME walk_head walk_tail false (walking o w) (Done (walking 1 x) 5)) same
       (leaves (head_ahead im w o 1 h (omega arith) eo (is_one w en same)) (not_zero 1 refl))
   up im (suc r) w o e h eo z =
       let here : Runs im walk_head false (walking o w) (Done (walking 0 w) 2) =
       head_ahead im w o 0 h (omega arith) eo (not_last w (omega arith)) in
       let next = up im r (w + 1) 0 (omega arith) (omega arith) (not_before w h) (λ a lo hi. z a (omega arith) hi) in
       let k : 13 + (5 + 13 * r) ≡ 5 + 13 * suc r = omega arith in
-      subst (λ x. Rounds im 10 walk_head walk_tail false (walking o w) (Done (walking 1 en) x)) k
+      subst (λ x. Rounds im OUTCOME walk_head walk_tail false (walking o w) (Done (walking 1 en) x)) k
       (again here refl ((tail_goes w (omega arith) (z w (omega arith) (omega arith))).ahead im) refl next)
 
   down : (im : Image) (r w o : ℕ) → w ≡ st + r → w ≤ en → word_of (nat_eq w en) ≡ o
-      → ((a : ℕ) → st ≤ a → a < w → slice_index zs a ≡ 0) → Rounds im 10 walk_head walk_tail true (walking o w)
+      → ((a : ℕ) → st ≤ a → a < w → slice_index zs a ≡ 0) → Rounds im OUTCOME walk_head walk_tail true (walking o w)
       (Done (walking 1 st) (5 + 13 * r))
   down im zero w o e h eo z =
       let same : w ≡ st = omega arith in
-      subst (λ x. Rounds im 10 walk_head walk_tail true (walking o w) (Done (walking 1 x) 5)) same
+      subst (λ x. Rounds im OUTCOME walk_head walk_tail true (walking o w) (Done (walking 1 x) 5)) same
       (leaves (head_back im w 1 o (omega arith) h (is_one st w (omega arith)) eo) (not_zero 1 refl))
   down im (suc r) w o e h eo z =
       let w' : ℕ = st + r in
@@ -146,22 +146,22 @@ module _ (b : Bases) (f : ℕ → ℕ) (v p st en : ℕ) (zs : List ℕ) (order 
       let next = down im r (st + r) 0 refl (omega arith) (not_last (st + r) (omega arith))
       (λ a lo hi. z a lo (omega arith)) in
       let k : 13 + (5 + 13 * r) ≡ 5 + 13 * suc r = omega arith in
-      subst (λ x. Rounds im 10 walk_head walk_tail true (walking o w) (Done (walking 1 st) x)) k
+      subst (λ x. Rounds im OUTCOME walk_head walk_tail true (walking o w) (Done (walking 1 st) x)) k
       (again here refl back refl next)
 
   -- all cells are 0
   pub walk_goes : ((a : ℕ) → st ≤ a → a < en → slice_index zs a ≡ 0) → (n : ℕ) → st + n ≡ en
       → Goes walk_cells (3 + (5 + 13 * n)) (walking 1 st) (walking 1 en)
   walk_goes z n e = record {
-    ahead = λ im. (while_law 10 walk_head walk_tail).turns im false (walking 1 st) (Done (walking 1 en) (5 + 13 * n))
+    ahead = λ im. (while_law OUTCOME walk_head walk_tail).turns im false (walking 1 st) (Done (walking 1 en) (5 + 13 * n))
         (not_zero 1 refl) (up im n st 1 e (omega arith) (is_one st st refl) z);
-    back = λ im. (while_law 10 walk_head walk_tail).turns im true (walking 1 en) (Done (walking 1 st) (5 + 13 * n))
+    back = λ im. (while_law OUTCOME walk_head walk_tail).turns im true (walking 1 en) (Done (walking 1 st) (5 + 13 * n))
         (not_zero 1 refl) (down im n en 1 (sym e) (omega arith) (is_one en en refl) z);
   }
 
   -- or one is not
   stops : (im : Image) (r w o j : ℕ) → w + r ≡ en → st ≤ w → word_of (nat_eq st w) ≡ o → w ≤ j → j < en
-      → slice_index zs j ≢ 0 → (k : ℕ) × (k ≤ 13 * r) × Rounds im 10 walk_head walk_tail false (walking o w)
+      → slice_index zs j ≢ 0 → (k : ℕ) × (k ≤ 13 * r) × Rounds im OUTCOME walk_head walk_tail false (walking o w)
       (Trapped NOT_EMPTY k)
   stops im zero w o j e h eo lo hi nz = absurd (omega arith)
   stops im (suc r) w o j e h eo lo hi nz =
@@ -173,7 +173,7 @@ module _ (b : Bases) (f : ℕ → ℕ) (v p st en : ℕ) (zs : List ℕ) (order 
       head = head_ahead im w o 0 h (omega arith) eo (not_last w (omega arith))
 
       here : slice_index zs w ≢ 0 → (k : ℕ) × (k ≤ 13 * suc r)
-          × Rounds im 10 walk_head walk_tail false (walking o w) (Trapped NOT_EMPTY k)
+          × Rounds im OUTCOME walk_head walk_tail false (walking o w) (Trapped NOT_EMPTY k)
       here n =
           let t = (traps_first (addi FIRST_WORD 1 ∷ []) (nil_traps b f kept (by_first b f kept w) 7 zs (omega arith)
           n)).ahead im in
@@ -181,8 +181,8 @@ module _ (b : Bases) (f : ℕ → ℕ) (v p st en : ℕ) (zs : List ℕ) (order 
           (6 + t.0, omega arith, ends_in_tail head refl t.2 tt)
 
       onward : slice_index zs w ≡ 0 → (k : ℕ) × (k ≤ 13 * r)
-          × Rounds im 10 walk_head walk_tail false (walking 0 (w + 1)) (Trapped NOT_EMPTY k)
-          → (k : ℕ) × (k ≤ 13 * suc r) × Rounds im 10 walk_head walk_tail false (walking o w) (Trapped NOT_EMPTY k)
+          × Rounds im OUTCOME walk_head walk_tail false (walking 0 (w + 1)) (Trapped NOT_EMPTY k)
+          → (k : ℕ) × (k ≤ 13 * suc r) × Rounds im OUTCOME walk_head walk_tail false (walking o w) (Trapped NOT_EMPTY k)
       onward z t = let l = t.1 in (
         13 + t.0,
         omega arith,
@@ -196,7 +196,7 @@ module _ (b : Bases) (f : ℕ → ℕ) (v p st en : ℕ) (zs : List ℕ) (order 
     ahead = λ im. let t = stops im n st 1 j e (omega arith) (is_one st st refl) lo hi nz in let l = t.1 in (
       3 + t.0,
       omega arith,
-      (while_law 10 walk_head walk_tail).turns im false (walking 1 st) (Trapped NOT_EMPTY t.0)
+      (while_law OUTCOME walk_head walk_tail).turns im false (walking 1 st) (Trapped NOT_EMPTY t.0)
           (not_zero 1 refl) t.2,
     );
   }

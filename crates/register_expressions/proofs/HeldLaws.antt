@@ -405,12 +405,13 @@ free_of free n m h = record {
 }
 
 module _ (spot : List ℕ → Spot) (free into : ℕ) (e : Expression) (m : Memory) (target : Target into)
-    (ready : Ready free (words e) m) (sees : Sees spot (bases_of m) (memory_reg m 4 + free) m.cells e) (few : need e < 10)
+    (ready : Ready free (words e) m) (sees : Sees spot (bases_of m) (memory_reg m FRAME + free) m.cells e)
+    (few : need e < 10)
     (im : Image) (d : Bool) where
   abbrev low : ℕ
-  low = memory_reg m 4 + free
+  low = memory_reg m FRAME + free
 
-  inside : memory_reg m 4 + free ≤ length m.cells
+  inside : memory_reg m FRAME + free ≤ length m.cells
   inside = let h = ready.inside in omega arith
 
   same : known 32 (memory_reg m) m.cells ≡ m
@@ -432,7 +433,8 @@ module _ (spot : List ℕ → Spot) (free into : ℕ) (e : Expression) (m : Memo
       λ q. written_again f into x (bit_xor (g into) v) q
       ∙ written_same f into (bit_xor (g into) v) q (sym (ap (λ z. bit_xor z v) (written_at f into x)
       ∙ xor-twice (f into) v)) in
-      let back = go g (free_written 32 (bases_of m) m.cells spot ready.small (omega arith) (memory_reg m 4 + free) inside
+      let back = go g (free_written 32 (bases_of m) m.cells spot ready.small (omega arith) (memory_reg m FRAME + free)
+      inside
       ready.words into (target_small into target) 9 away f x r) in
       runs_along (goes_to refl same at_end (go f r))
       (goes_to refl at_end (known_same 32 _ _ m.cells (λ q l. again q) ∙ same) back) im d
@@ -453,11 +455,14 @@ module _ (spot : List ℕ → Spot) (free into : ℕ) (e : Expression) (m : Memo
       by (Ok v) q =
           let fine = ok_fine spot (bases_of m) m.cells (number spot (bases_of m) m.cells e) v q in
           subst (λ z. Xored into (held_value_steps e) m z im (held_value_cells spot e into) d) (sym fine ∙ q)
-          (both_ways (held_value_cells spot e into) (held_value_steps e) (word_given (number spot (bases_of m) m.cells e))
-          (value_into 32 (bases_of m) m.cells spot ready.small (omega arith) (memory_reg m 4 + free) inside ready.words into
+          (both_ways (held_value_cells spot e into) (held_value_steps e)
+          (word_given (number spot (bases_of m) m.cells e))
+          (value_into 32 (bases_of m) m.cells spot ready.small (omega arith) (memory_reg m FRAME + free) inside
+          ready.words into
           (target_small into target) 9 (target_apart into target) e (omega arith) (omega arith) sees fine))
       by (Err c) q = trapped (held_value_cells spot e into) (held_value_steps e) c
-          (value_traps 32 (bases_of m) m.cells spot ready.small (omega arith) (memory_reg m 4 + free) inside ready.words into
+          (value_traps 32 (bases_of m) m.cells spot ready.small (omega arith) (memory_reg m FRAME + free) inside
+          ready.words into
           (target_small into target) 9 (target_apart into target) e (omega arith) (omega arith) sees c q)
 
   pub held_test : Xored into (held_test_steps e) m (truth_of (number spot (bases_of m) m.cells e)) im
@@ -471,8 +476,10 @@ module _ (spot : List ℕ → Spot) (free into : ℕ) (e : Expression) (m : Memo
           subst (λ z. Xored into (held_test_steps e) m (truth_of z) im (held_test_cells spot e into) d) (sym fine ∙ q)
           (both_ways (held_test_cells spot e into) (held_test_steps e)
           (truth_word (is_true (word_given (number spot (bases_of m) m.cells e))))
-          (test_into 32 (bases_of m) m.cells spot ready.small (omega arith) (memory_reg m 4 + free) inside ready.words into
+          (test_into 32 (bases_of m) m.cells spot ready.small (omega arith) (memory_reg m FRAME + free) inside
+          ready.words into
           (target_small into target) 9 (target_apart into target) e (omega arith) (omega arith) sees fine))
       by (Err c) q = trapped (held_test_cells spot e into) (held_test_steps e) c
-          (test_traps 32 (bases_of m) m.cells spot ready.small (omega arith) (memory_reg m 4 + free) inside ready.words into
+          (test_traps 32 (bases_of m) m.cells spot ready.small (omega arith) (memory_reg m FRAME + free) inside
+          ready.words into
           (target_small into target) 9 (target_apart into target) e (omega arith) (omega arith) sees c q)
