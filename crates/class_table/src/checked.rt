@@ -46,7 +46,7 @@ impl Checked {
         Checked { program, table }
     }
 
-    /// The program.
+    /// The program that was accepted.
     pub fn program(&self) -> &Program
         ensures program { result.now ≡ self.now }
         ensures accepted { IsAccepted (source_of self.now) }

@@ -107,7 +107,7 @@ pub fn found_value(
     seq(both, check)
 }
 
-/// Two places.
+/// Code that finds the addresses of two places.
 pub fn both_places(
     alloc: Global,
     left: &Place,

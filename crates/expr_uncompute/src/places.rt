@@ -572,7 +572,7 @@ fn swap_by_form(
     }
 }
 
-/// A swap of two places.
+/// Code that exchanges the values of two places.
 pub fn swap_piece(
     alloc: Global,
     left: &Place,

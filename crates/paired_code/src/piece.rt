@@ -42,7 +42,7 @@ impl Model for Piece {
     ghost invariant = { λ p. KeptCode (symbols_in p.cells) p.marks.items };
 }
 
-/// No cells.
+/// The piece that does nothing, with no cells and no marks.
 pub fn empty(alloc: Global) -> Piece
     ensures code { result ≡ unmarked [] }
     ensures law { EmptyLaw result.cells }
@@ -53,7 +53,7 @@ pub fn empty(alloc: Global) -> Piece
     }
 }
 
-/// One after the other.
+/// The piece that does one after the other.
 pub fn seq(first: Piece, second: Piece) -> Result<Piece, NoMemory>
     ensures code { IfOk result (λ p. p ≡ seq_code first second) }
     ensures marks { IfOk result (λ p. parts p ≡ parts first ++ parts second) }
@@ -220,7 +220,7 @@ pub fn mirror(alloc: Global, piece: &Piece) -> Result<Piece, NoMemory>
     Ok(sealed(cells, Vec::new(alloc)))
 }
 
-/// Its cells.
+/// The cells of a piece, in order, each of which fits.
 pub fn cells_of(piece: &Piece) -> &[Symbol]
     ensures cells { result.now ≡ piece.now.cells }
     ensures fit { AllSymbolsFit piece.now.cells }
@@ -228,7 +228,7 @@ pub fn cells_of(piece: &Piece) -> &[Symbol]
     piece.cells.as_slice()
 }
 
-/// Its marks.
+/// The marks of a piece, each of which is within its cells.
 pub fn marks_in(piece: &Piece) -> &[Span]
     ensures marks { result.now ≡ piece.now.marks }
     ensures within { AllWithin (length piece.now.cells) piece.now.marks }

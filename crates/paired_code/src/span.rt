@@ -24,7 +24,7 @@ impl Model for Span {
 }
 
 impl Span {
-    /// Its first cell.
+    /// The number of the first cell that it covers.
     pub fn first(&self) -> usize
         ensures { result ≡ self.now.first }
     {

@@ -54,7 +54,7 @@ fn add_item(survey: &Survey, code: &mut Vec<Cell>, item: &Item, line: u32) -> Re
     }
 }
 
-/// The code of a text.
+/// Reads a text again, with its labels known, into the cells of its code.
 pub fn link(alloc: Global, survey: &Survey, text: &[u8]) -> Result<Vec<Cell>, AsmError>
     requires { length text.now ≤ MOST_TEXT }
     ensures { MatchResult result

@@ -56,7 +56,7 @@ impl Survey {
         place_of(&self.labels, name)
     }
 
-    /// The static words.
+    /// The static words that the lines give, in order.
     pub fn into_statics(self) -> Vec<u32>
         ensures { result.items ≡ self.statics }
     {
@@ -104,7 +104,7 @@ impl Survey {
     }
 }
 
-/// The survey of a text.
+/// Reads a text once, for its labels and its static words.
 pub fn survey_of(alloc: Global, text: &[u8]) -> Result<Survey, AsmError>
     requires { length text.now ≤ MOST_TEXT }
     ensures { MatchResult result

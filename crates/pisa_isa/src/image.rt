@@ -122,7 +122,7 @@ impl Image {
         }
     }
 
-    /// The code cells.
+    /// The cells of its code, in order.
     pub fn code(&self) -> &[Cell]
         ensures code { result.now ≡ self.now.code }
         ensures image { IsImage self.now }
@@ -130,7 +130,7 @@ impl Image {
         &self.code
     }
 
-    /// The static cells.
+    /// The words that its static cells begin with.
     pub fn statics(&self) -> &[u32]
         ensures statics { result.now ≡ self.now.statics }
         ensures image { IsImage self.now }

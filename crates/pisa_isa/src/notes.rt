@@ -237,7 +237,7 @@ impl Noted {
         Noted { image, notes }
     }
 
-    /// The image.
+    /// The image that the notes are about.
     pub fn image(&self) -> &Image
         ensures image { result.now ≡ self.now.image }
         ensures fits { IsTrue (fits self.now.image self.now.notes) }

@@ -270,7 +270,7 @@ impl Machine {
         self.cells.len()
     }
 
-    /// The image.
+    /// The image that the machine runs.
     pub fn image(&self) -> &Image
         ensures image { result.now ≡ self.now.image }
         ensures machine { IsMachine self.now }

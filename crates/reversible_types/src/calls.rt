@@ -191,7 +191,7 @@ fn is_own(receiver: &Option<Place>) -> bool
     }
 }
 
-/// The rules of a call.
+/// Checks a call: its receiver, its method and its arguments.
 pub fn call_rules(
     setting: &Typing,
     locals: &Locals,

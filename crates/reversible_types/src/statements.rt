@@ -376,7 +376,7 @@ fn copy_rules(
     Ok(())
 }
 
-/// The rules of a block.
+/// Checks each statement of a block by its typing rules.
 #[cycle(check)]
 pub fn check_block(setting: &Typing, locals: &Locals, b: &Block) -> Result<(), TypeError>
     ensures { verdict_of result ≡ check_statements (typing_of setting.now) (locals_of locals.now)

@@ -12,7 +12,7 @@ pub struct Token {
     pub len: u32,
 }
 
-/// What a token is.
+/// A keyword, a name, a number or a symbol.
 #[derive(Drop)]
 pub enum TokenKind {
     /// A word of the language.

@@ -126,7 +126,7 @@ fn class<'a>(
     Ok((class, rest))
 }
 
-/// Reads the classes.
+/// Reads class after class, to the end of the tokens.
 #[tactic(auto, using(crate::proofs::MoveSets::class_moves))]
 pub fn classes<'a>(
     alloc: Global,

@@ -11,7 +11,7 @@ use crate::trail::{Note, Trail};
 use crate::{Shelf, ShelfFault};
 use std::alloc::Global;
 
-/// A text and its name.
+/// A file of a store in memory.
 #[derive(Drop)]
 pub struct Named {
     pub name: String,

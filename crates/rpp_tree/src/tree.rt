@@ -10,14 +10,14 @@ pub struct Ident {
     pub text: Text,
 }
 
-/// A program.
+/// A source text as a tree: the classes that it declares.
 #[derive(Drop)]
 pub struct Program {
     /// Its classes, in the order of the source.
     pub classes: Vec<Class>,
 }
 
-/// A class.
+/// What a class declares between its header and the next class.
 #[derive(Drop)]
 pub struct Class {
     /// Its name.
@@ -30,7 +30,7 @@ pub struct Class {
     pub methods: Vec<Method>,
 }
 
-/// A method.
+/// A method as its class declares it.
 #[derive(Drop)]
 pub struct Method {
     /// Its name.
@@ -58,7 +58,7 @@ pub struct Var {
     pub name: Ident,
 }
 
-/// A type of variables.
+/// What a variable can hold: a word, or a reference to an object or an array.
 #[derive(Drop)]
 pub enum VarType {
     /// A word.
@@ -81,7 +81,7 @@ pub struct Place {
     pub index: Option<Box<Expr>>,
 }
 
-/// An expression.
+/// What has a value and changes nothing.
 #[derive(Drop)]
 #[cycle(values)]
 pub enum Expr {
@@ -105,7 +105,7 @@ pub enum Expr {
     },
 }
 
-/// A binary operator.
+/// An operator between two expressions.
 #[derive(Clone, Copy, Debug, PartialEq, Eq)]
 pub enum BinOp {
     Add,

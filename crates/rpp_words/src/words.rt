@@ -2,7 +2,7 @@
 ghost use Rattle.std.specs.Prelude.{◌≡◌};
 ghost use Rattle.rpp_words.specs.Words.{sum_of, difference_of, is_less, shifted_left, shifted_right, shifted_right_signed, turned_left, turned_right};
 
-/// The sum, wrapped.
+/// The sum modulo 2^32.
 pub fn wrap_add(a: u32, b: u32) -> u32
     ensures { result ≡ sum_of a b }
 {

@@ -28,7 +28,7 @@ pub struct Construct<'a> {
     pub back: bool,
 }
 
-/// A block that runs.
+/// Where the statements of a block that runs are from.
 #[derive(Clone, Copy)]
 pub enum Task<'a> {
     /// The body of no method.

@@ -311,14 +311,14 @@ impl<'a> SourceDebugger<'a> {
         tell_failure(&run, &mut self.course, self.position, detail)
     }
 
-    /// The position.
+    /// How many statements of the run began before its place.
     pub fn position(&self) -> u64
         ensures { result ≡ self.now.position }
     {
         self.position
     }
 
-    /// The program.
+    /// The program that is debugged, with its class table.
     pub fn checked(&self) -> &'a Checked
         ensures { result.now ≡ self.now.program }
     {
@@ -333,7 +333,7 @@ impl<'a> SourceDebugger<'a> {
         self.limits
     }
 
-    /// The input of the run.
+    /// The words that the run starts with.
     pub fn input(&self) -> &'a Input
         ensures { result.now.words.items ≡ self.now.input }
     {

@@ -311,7 +311,7 @@ impl<'a> Execution<'a> {
         self.run.setting.depth
     }
 
-    /// The current object.
+    /// The number of the object whose method runs.
     pub fn object(&self) -> u32
         ensures { result ≡ (config_at self.now).state.self }
     {
@@ -334,7 +334,7 @@ impl<'a> Execution<'a> {
         variables_in(alloc, &self.run.locals, self.run.params, &self.run.values)
     }
 
-    /// The heap of the run.
+    /// The objects and arrays of the run, with their log.
     pub fn heap(&self) -> &Heap
         ensures store { result.now.store ≡ (config_at self.now).state.store }
         ensures log { result.now.log ≡ (config_at self.now).state.log }

@@ -302,7 +302,7 @@ pub fn copy_apart(
     }
 }
 
-/// The check of a swap.
+/// Checks that a swap does not change what its own places read.
 pub fn swap_apart(
     setting: &Setting,
     scope: &Scope,

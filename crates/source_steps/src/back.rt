@@ -43,7 +43,7 @@ fn untake(
     }
 }
 
-/// A `new` undone.
+/// Undoes a `new`: unmakes what it made and empties the place.
 pub fn unmade(
     setting: &Setting,
     scope: &Scope,
@@ -209,7 +209,7 @@ fn undelete_array(
     put_array(setting, scope, heap, values, fuel, cell, kind, value)
 }
 
-/// A `delete` undone.
+/// Undoes a `delete`: makes again what it unmade, at the place.
 pub fn undeleted(
     setting: &Setting,
     scope: &Scope,

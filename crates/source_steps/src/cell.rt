@@ -53,7 +53,7 @@ fn value_of_slot(scope: &Scope, values: &[Value], index: usize) -> Value
     cell_in(values, index)
 }
 
-/// What a cell holds.
+/// The value of a variable, a field or an element.
 pub fn read_cell(
     setting: &Setting,
     scope: &Scope,

@@ -59,7 +59,7 @@ fn refer(
     Ok(())
 }
 
-/// A `copy`.
+/// Gives a place that is nil a second reference, and counts it.
 #[tactic(auto, using(crate::proofs::Fuelled::either))]
 pub fn copy(
     setting: &Setting,
@@ -116,7 +116,7 @@ fn take_back(
     Ok(())
 }
 
-/// An `uncopy`.
+/// Takes back a second reference, and counts it.
 pub fn uncopy(
     setting: &Setting,
     scope: &Scope,

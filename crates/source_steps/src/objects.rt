@@ -156,7 +156,7 @@ pub(crate) fn fields_of<'a>(setting: &Setting<'a>, class: u32) -> &'a [Var]
     setting.checked.table().fields(class)
 }
 
-/// `new` of an object.
+/// Makes an object of a class at a place that is nil.
 pub fn new_object(
     setting: &Setting,
     scope: &Scope,
@@ -453,7 +453,7 @@ fn drop_array(
     )
 }
 
-/// `delete` of an array.
+/// Unmakes the array at a place, whose length must be the size.
 pub fn delete_array(
     setting: &Setting,
     scope: &Scope,
@@ -476,7 +476,7 @@ pub fn delete_array(
     drop_array(setting, scope, heap, values, fuel, cell, value)
 }
 
-/// A `new`.
+/// Makes an object or an array, as the statement says.
 pub fn new_made(
     setting: &Setting,
     scope: &Scope,
@@ -514,7 +514,7 @@ pub fn new_made(
     }
 }
 
-/// A `delete`.
+/// Unmakes an object or an array, as the statement says.
 pub fn delete_made(
     setting: &Setting,
     scope: &Scope,

@@ -1,8 +1,8 @@
 // Statements that hold no others, except for calls and the heap.
-ghost use Rattle.std.specs.Prelude.{◌≡◌, ◌≤◌, OnOk, IfErr};
+ghost use Rattle.std.specs.Prelude.{◌≡◌, ◌≤◌, OnOk, IfErr, not, if◌then◌else◌};
 ghost use Rattle.rpp_tree.specs.Tree.{Update, Swap, Whole};
 ghost use Rattle.rpp_tree.specs.Views.{expression_of, lvalue_of};
-ghost use Rattle.source_store.specs.inverse_rules.Inverse.{inverse_operator, call_direction};
+ghost use Rattle.source_store.specs.inverse_rules.Inverse.{inverse_operator};
 ghost use Rattle.source_store.specs.roopl_semantics.Operators.{updated};
 ghost use Rattle.source_steps.specs.Ends.{EndsAs, does_simply};
 ghost use Rattle.source_steps.specs.Metered.{IsOwn, OnFault};
@@ -158,7 +158,7 @@ pub fn undone(op: UpdateOp) -> UpdateOp
 
 /// The direction of a call, as it stands or undone.
 pub fn turned_call(back: bool, call_back: bool) -> bool
-    ensures { result ≡ call_direction back call_back }
+    ensures { result ≡ (if back then not call_back else call_back) }
 {
     if back { !call_back } else { call_back }
 }

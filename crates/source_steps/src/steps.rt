@@ -16,7 +16,7 @@ use crate::stop::Stop;
 use rpp_tree::tree::{Expr, Place};
 use source_store::{Heap, Value};
 
-/// Counts.
+/// Takes the cost of a step from the fuel, or stops where the fuel is less.
 pub fn spend(fuel: &mut u64, cost: u64) -> Result<(), Stop>
     ensures gives { MeteredGives (λ u. tt) result fuel.new (metered fuel.old (spending cost)) }
     ensures less { fuel.new ≤ fuel.old }

@@ -21,7 +21,7 @@ pub fn invert_op(op: UpdateOp) -> UpdateOp
     }
 }
 
-/// An update.
+/// The statement that updates a place by a value.
 pub fn update(
     alloc: Global,
     at: u32,
@@ -42,7 +42,7 @@ pub fn update(
     })
 }
 
-/// A conditional.
+/// The statement that runs one of two blocks, with its test and its assertion.
 pub fn conditional(
     alloc: Global,
     at: u32,
@@ -65,7 +65,7 @@ pub fn conditional(
     })
 }
 
-/// A loop.
+/// The statement that repeats two blocks between two tests.
 pub fn turns(
     alloc: Global,
     at: u32,
@@ -89,7 +89,7 @@ pub fn turns(
     })
 }
 
-/// A `construct`.
+/// The statement that makes an object for a block and then unmakes it.
 pub fn construct(
     alloc: Global,
     at: u32,
@@ -141,7 +141,7 @@ pub fn local(
     })
 }
 
-/// A `new`.
+/// The statement that makes an object or an array at a place.
 pub fn new_stmt(alloc: Global, at: u32, made: &Made, place: &Place) -> Result<Stmt, NoMemory>
     ensures { IfOk result (λ s. statement_of s ≡ New at (creation_of made.now) (lvalue_of place.now)) }
 {
@@ -150,7 +150,7 @@ pub fn new_stmt(alloc: Global, at: u32, made: &Made, place: &Place) -> Result<St
     Ok(Stmt::New { at, made, place })
 }
 
-/// A `delete`.
+/// The statement that unmakes an object or an array at a place.
 pub fn delete_stmt(alloc: Global, at: u32, made: &Made, place: &Place) -> Result<Stmt, NoMemory>
     ensures { IfOk result (λ s. statement_of s ≡ Delete at (creation_of made.now) (lvalue_of place.now)) }
 {
@@ -159,7 +159,7 @@ pub fn delete_stmt(alloc: Global, at: u32, made: &Made, place: &Place) -> Result
     Ok(Stmt::Delete { at, made, place })
 }
 
-/// A `copy`.
+/// The statement that gives a place a second reference to what another refers to.
 pub fn copy_stmt(
     alloc: Global,
     at: u32,
@@ -181,7 +181,7 @@ pub fn copy_stmt(
     })
 }
 
-/// An `uncopy`.
+/// The statement that takes back such a second reference.
 pub fn uncopy_stmt(
     alloc: Global,
     at: u32,

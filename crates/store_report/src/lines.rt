@@ -28,7 +28,7 @@ pub fn add_word(out: &mut String, word: u32) -> Result<(), AllocError>
     }
 }
 
-/// The bytes of a name.
+/// Adds ASCII bytes to a text, as characters.
 pub fn add_bytes(out: &mut String, bytes: &[u8]) -> Result<(), AllocError>
     requires { IsAscii bytes.now }
     ensures { OnOk result (string_bytes out.new ≡ string_bytes out.old ++ bytes.now) }
@@ -39,7 +39,7 @@ pub fn add_bytes(out: &mut String, bytes: &[u8]) -> Result<(), AllocError>
     Ok(())
 }
 
-/// The bytes of a name.
+/// Adds a name to a text.
 pub fn add_name(out: &mut String, name: &Text) -> Result<(), AllocError>
     requires { IsAscii name.now }
     ensures { OnOk result (string_bytes out.new ≡ string_bytes out.old ++ name.now) }
@@ -47,7 +47,7 @@ pub fn add_name(out: &mut String, name: &Text) -> Result<(), AllocError>
     add_bytes(out, name.bytes())
 }
 
-/// The name of a class.
+/// The bytes of the name of a class, none for a number of no class.
 pub fn class_name(program: &Program, class: u32) -> &[u8]
     ensures { result.now ≡ (class_at (source_of program.now) class).name.text }
 {

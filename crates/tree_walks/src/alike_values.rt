@@ -12,7 +12,7 @@ pub fn alike_names(a: &Ident, b: &Ident) -> bool
     a.text.same(&b.text)
 }
 
-/// The same of types.
+/// Whether two types are the same up to the offsets of their names.
 pub fn alike_types(a: &VarType, b: &VarType) -> bool
     ensures { IsTrue result ↔ (bare_type a.now ≡ bare_type b.now) }
 {
@@ -25,14 +25,14 @@ pub fn alike_types(a: &VarType, b: &VarType) -> bool
     }
 }
 
-/// The same of variables.
+/// Whether two variables are the same up to the offsets of their names.
 pub fn alike_vars(a: &Var, b: &Var) -> bool
     ensures { IsTrue result ↔ (bare_var a.now ≡ bare_var b.now) }
 {
     alike_types(&a.kind, &b.kind) && alike_names(&a.name, &b.name)
 }
 
-/// The same of places.
+/// Whether two places are the same up to offsets, those of their indices included.
 #[cycle(alike_values)]
 pub fn alike_places(a: &Place, b: &Place) -> bool
     ensures { IsTrue result ↔ (bare_lvalue (lvalue_of a.now) ≡ bare_lvalue (lvalue_of b.now)) }
@@ -44,7 +44,7 @@ pub fn alike_places(a: &Place, b: &Place) -> bool
     }
 }
 
-/// The same of expressions.
+/// Whether two expressions are the same up to the offsets in them.
 #[cycle(alike_values)]
 pub fn alike_exprs(a: &Expr, b: &Expr) -> bool
     ensures { IsTrue result ↔ (bare_expression (expression_of a.now)
