@@ -11,15 +11,18 @@ use Rattle.refine_expressions.specs.paired_code.Machine.{memory_reg}
 use Rattle.refine_expressions.specs.paired_code.Layout.{bool_xor}
 use Rattle.refine_expressions.specs.paired_code.Pieces.{Outcome, Will}
 use Rattle.refine_expressions.specs.paired_code.Rows.{line}
-use Rattle.refine_expressions.specs.paired_code.Does.{RunResult, Fine, plus, told_then, Meets, fine, faults, more, Does, XorsTruth, chosen, agreed}
+use Rattle.refine_expressions.specs.paired_code.Does.{RunResult, Fine, plus, told_then, Meets, fine, faults, more, Does}
+use Rattle.refine_expressions.specs.paired_code.Does.{XorsTruth, chosen, agreed}
 use Rattle.refine_expressions.specs.paired_code.Does.{if_told}
 use Rattle.refine_expressions.proofs.paired_code_laws.Laws.{will_more}
 use Rattle.refine_expressions.proofs.paired_code_laws.Does.{bit as flag_bit}
-use Rattle.refine_expressions.specs.roopl_semantics.Run.{Run, Done as DoneRun, Fault as FaultRun, More as MoreRun, ◌>>=◌, give, fault_if}
+use Rattle.refine_expressions.specs.roopl_semantics.Run.{Run, Done as DoneRun, Fault as FaultRun, More as MoreRun}
+use Rattle.refine_expressions.specs.roopl_semantics.Run.{◌>>=◌, give, fault_if}
 use Rattle.refine_expressions.specs.roopl_semantics.Store.{Value, State}
 use Rattle.refine_expressions.specs.roopl_semantics.Value.{evaluated}
 use Rattle.refine_expressions.specs.roopl_semantics.Execution.{Setting, exec, holds, FI}
-use Rattle.refine_form.specs.Form.{World, Scope, HasOpenFrame, Owes, StmtLaw, BlockLaw, TestLaw, tested, run_result, one, turned_statement}
+use Rattle.refine_form.specs.Form.{World, Scope, HasOpenFrame, Owes, StmtLaw, BlockLaw, TestLaw, tested, run_result}
+use Rattle.refine_form.specs.Form.{one, turned_statement}
 use Rattle.branch_codegen.specs.Branches.{flips, part_code, if_code}
 use Rattle.refine_form.proofs.Told.{alone, told_after, told_bind, same_then}
 use Rattle.refine_form.proofs.Rules.{as_known, meets_rate, wraps, meets_told, meets_slack, meets_less}
@@ -106,7 +109,8 @@ module _ (w : World) (thousand : w.rates.steps ≡ 1000) (counts : 1 ≤ w.rates
         let ob = w.object_of u in
         let fr = w.frame_of u in
         let cs = m.cells in
-        let all = wraps w.im d (line (flips ∷ [])) p (mk 0 ob fr 0 0 0 1 0 cs) (mk 0 ob fr 0 0 0 0 0 cs) (HasOpenFrame w s u)
+        let all = wraps w.im d (line (flips ∷ [])) p (mk 0 ob fr 0 0 0 1 0 cs) (mk 0 ob fr 0 0 0 0 0 cs)
+        (HasOpenFrame w s u)
         (R true) w.rates n 0 1 1 (g st) (λ a. Fine a 0)
         (will_row w.im false (flips ∷ []) 1 _ _ (next refl (omega arith) refl here))
         (h.does st _ (record { regs_are = refl; open_frame = i.open_frame }))
@@ -120,7 +124,8 @@ module _ (w : World) (thousand : w.rates.steps ≡ 1000) (counts : 1 ≤ w.rates
         all);
   }
 
-  does_less : (p : List Symbol) (d : Bool) (R1 : State → Memory → Type 0) (n k y : ℕ) (g : State → RunResult State) → k ≤ n
+  does_less : (p : List Symbol) (d : Bool) (R1 : State → Memory → Type 0) (n k y : ℕ) (g : State → RunResult State)
+      → k ≤ n
       → Does w.im p d R1 R1 w.rates n y g → Does w.im p d R1 R1 w.rates k y g
   does_less p d R1 n k y g l h = record {
     does = λ a m i. will_more w.im p d m _ _ (λ o q. meets_less k l q)
@@ -128,13 +133,15 @@ module _ (w : World) (thousand : w.rates.steps ≡ 1000) (counts : 1 ≤ w.rates
   }
 
   to_flagged : (p : List Symbol) (d : Bool) (n : ℕ) (g : State → RunResult State)
-      → Does w.im p d (HasOpenFrame w s u) (HasOpenFrame w s u) w.rates n 0 g → Does w.im p d (R false) (R false) w.rates n 2 g
+      → Does w.im p d (HasOpenFrame w s u) (HasOpenFrame w s u) w.rates n 0 g
+      → Does w.im p d (R false) (R false) w.rates n 2 g
   to_flagged p d n g h = record {
     does = λ a m i. will_more w.im p d m _ _ (λ o q. go q)
         (h.does a m (record { regs_are = i.regs_are; open_frame = i.open_frame }));
   }
     where
-      go : {t : RunResult State} {o : Outcome} → Meets (HasOpenFrame w s u) w.rates n 0 t o → Meets (R false) w.rates n 2 t o
+      go : {t : RunResult State} {o : Outcome} → Meets (HasOpenFrame w s u) w.rates n 0 t o
+          → Meets (R false) w.rates n 2 t o
       go (fine r l x) = fine (record { regs_are = r.regs_are; open_frame = r.open_frame }) l (omega arith)
       go (faults x) = faults (omega arith)
       go (more l) = more l
@@ -179,7 +186,8 @@ module _ (w : World) (thousand : w.rates.steps ≡ 1000) (counts : 1 ≤ w.rates
         (told_if w.setting n at after (inverse taken) (inverse other) test st)) (from_flagged x))
         ((if_undoes w.im R flag_is nought_is w.rates counts 50 2 (omega (arith, thousand)) tp ap_code (part_code pp) qq
         (λ n a. run_result (tested w.setting test a)) (λ n a. run_result (tested w.setting after a))
-        (λ k a. run_result (exec w.setting n (inverse taken) a)) (λ k a. run_result (exec w.setting n (inverse other) a))
+        (λ k a. run_result (exec w.setting n (inverse taken) a))
+        (λ k a. run_result (exec w.setting n (inverse other) a))
         (tells true test tp ht) (tells true after ap_code ha) (suc n) p q).does st m
         (record { regs_are = h.regs_are; open_frame = h.open_frame }))
 

@@ -9,7 +9,8 @@ use Rattle.refine_expressions.specs.paired_code.declared.part.Symbol.{Symbol}
 use Rattle.refine_expressions.specs.paired_code.Machine.{Image, memory_reg}
 use Rattle.refine_expressions.specs.paired_code.Layout.{branch_cells, bool_xor, Equal}
 use Rattle.refine_expressions.specs.paired_code.Pieces.{Done, Runs, Will}
-use Rattle.refine_expressions.specs.paired_code.Does.{Rates, RunResult, Meets, fine, faults, more, Does, XorsTruth, agreed, if_told, in_order}
+use Rattle.refine_expressions.specs.paired_code.Does.{Rates, RunResult, Meets, fine, faults, more, Does, XorsTruth}
+use Rattle.refine_expressions.specs.paired_code.Does.{agreed, if_told, in_order}
 use Rattle.refine_expressions.proofs.paired_code_laws.Laws.{will_of}
 use Rattle.refine_expressions.proofs.paired_code_laws.Small.{runs_still}
 use Rattle.refine_expressions.proofs.paired_code_laws.Checks.{runs_passes, runs_fails}
@@ -52,7 +53,8 @@ module _ {A : Type 0} (im : Image) (d : Bool) (R : Bool → A → Memory → Typ
 
 module _ {A : Type 0} (im : Image) (R : Bool → A → Memory → Type 0)
     (flag : (v : Bool) (a : A) (m : Memory) → R v a m → memory_reg m FLAG ≡ bit v)
-    (nought : (v : Bool) (a : A) (m : Memory) → R v a m → memory_reg m NOUGHT ≡ 0) (b : Rates) (hb : 1 ≤ b.counts) (x y : ℕ)
+    (nought : (v : Bool) (a : A) (m : Memory) → R v a m → memory_reg m NOUGHT ≡ 0) (b : Rates) (hb : 1 ≤ b.counts)
+    (x y : ℕ)
     (hx : 10 + x + x + y ≤ b.steps) (t u p q : List Symbol) (tt uu : ℕ → A → RunResult Bool) where
   abbrev whole : List Symbol
   whole = check FI ++ (t ++ (branch_cells FLAG p q ++ (u ++ check FI)))

@@ -16,16 +16,19 @@ use Rattle.refine_expressions.proofs.Stated.{tests_are_told}
 use Rattle.branch_codegen.specs.Laws.{IfCode, FromCode, IfLaw, FromLaw}
 
 -- the code of a condition, in a scope of its names
-test_in : (known : Known) (e : Expression) (p : List Symbol) → code.ConditionLaw (spot_of known) (free_words_of known) FLAG e p
+test_in : (known : Known) (e : Expression) (p : List Symbol)
+    → code.ConditionLaw (spot_of known) (free_words_of known) FLAG e p
     → (place : Place) → IsLaidOut place → (s : Scope) → known_of place.setting.program s ≡ known
     → IsTyped place.setting.program s e kind.Int → TestLaw (world_of place) s e p
 test_in known e p law place laid s names ok =
-    tests_are_told place laid s e ok p (subst (λ (k : Known). code.ConditionLaw (spot_of k) (free_words_of k) FLAG e p) (sym names)
+    tests_are_told place laid s e ok p (subst (λ (k : Known). code.ConditionLaw (spot_of k) (free_words_of k) FLAG e p)
+    (sym names)
     law)
 
 pub if_in_scope : (known : Known) (test after : Expression) (t p q a all : List Symbol)
     → code.ConditionLaw (spot_of known) (free_words_of known) FLAG test t
-    → code.ConditionLaw (spot_of known) (free_words_of known) FLAG after a → IfCode t p q a all → IfLaw known test after p q all
+    → code.ConditionLaw (spot_of known) (free_words_of known) FLAG after a → IfCode t p q a all
+    → IfLaw known test after p q all
 if_in_scope known test after t p q a all ht ha made = record {
   law = λ place laid s names at taken other it ia hp hq.
       made.law place s at test after taken other (test_in known test t ht place laid s names it)
@@ -34,7 +37,8 @@ if_in_scope known test after t p q a all ht ha made = record {
 
 pub from_in_scope : (known : Known) (entry exit : Expression) (e p q x all : List Symbol)
     → code.ConditionLaw (spot_of known) (free_words_of known) FLAG entry e
-    → code.ConditionLaw (spot_of known) (free_words_of known) FLAG exit x → FromCode e p q x all → FromLaw known entry exit p q all
+    → code.ConditionLaw (spot_of known) (free_words_of known) FLAG exit x → FromCode e p q x all
+    → FromLaw known entry exit p q all
 from_in_scope known entry exit e p q x all he hx made = record {
   law = λ place laid s names at first again ie ix hp hq.
       made.law place s at entry exit first again (test_in known entry e he place laid s names ie)

@@ -11,19 +11,23 @@ use Rattle.refine_expressions.specs.pisa_isa.Machine.{Memory}
 use Rattle.refine_expressions.specs.paired_code.declared.part.Symbol.{Symbol}
 use Rattle.refine_expressions.specs.paired_code.Machine.{Image, memory_reg}
 use Rattle.refine_expressions.specs.paired_code.Layout.{bool_xor, loop_cells, Equal}
-use Rattle.refine_expressions.specs.paired_code.Pieces.{Outcome, Done, Trapped, Still, Will, outcome_after, to_tail, to_head}
-use Rattle.refine_expressions.specs.paired_code.Does.{Rates, RunResult, Fine, Fault, More, plus, told_then, Meets, fine, faults, more, Does}
+use Rattle.refine_expressions.specs.paired_code.Pieces.{Outcome, Done, Trapped, Still, Will, outcome_after, to_tail}
+use Rattle.refine_expressions.specs.paired_code.Pieces.{to_head}
+use Rattle.refine_expressions.specs.paired_code.Does.{Rates, RunResult, Fine, Fault, More, plus, told_then, Meets, fine}
+use Rattle.refine_expressions.specs.paired_code.Does.{faults, more, Does}
 use Rattle.refine_expressions.specs.paired_code.Does.{in_order}
 use Rattle.refine_expressions.proofs.paired_code_laws.Laws.{Next, will_of, will_more}
 use Rattle.refine_expressions.proofs.paired_code_laws.Checks.{runs_passes, runs_fails}
 use Rattle.refine_expressions.proofs.paired_code_laws.Does.{will_first, will_last, Quiet, quiet}
 use Rattle.refine_expressions.proofs.paired_code_laws.Loop.{Turns, turn, turns_more, will_loop, After_head}
-use Rattle.refine_expressions.specs.roopl_semantics.Run.{Run, Done as DoneRun, Fault as FaultRun, More as MoreRun, ◌>>=◌, give, fault_if}
+use Rattle.refine_expressions.specs.roopl_semantics.Run.{Run, Done as DoneRun, Fault as FaultRun, More as MoreRun}
+use Rattle.refine_expressions.specs.roopl_semantics.Run.{◌>>=◌, give, fault_if}
 use Rattle.refine_expressions.specs.roopl_semantics.Run.{given, after_cost}
 use Rattle.refine_expressions.specs.roopl_semantics.Store.{Value, State}
 use Rattle.refine_expressions.specs.roopl_semantics.Value.{evaluated, value}
 use Rattle.refine_expressions.specs.roopl_semantics.Execution.{Setting, exec, holds, turns, turn_end}
-use Rattle.refine_form.specs.Form.{World, Scope, HasOpenFrame, Owes, StmtLaw, BlockLaw, TestLaw, test_rates, tested, run_result}
+use Rattle.refine_form.specs.Form.{World, Scope, HasOpenFrame, Owes, StmtLaw, BlockLaw, TestLaw, test_rates, tested}
+use Rattle.refine_form.specs.Form.{run_result}
 use Rattle.refine_form.specs.Form.{one, turned_statement}
 use Rattle.refine_expressions.specs.paired_code.Rows.{line}
 use Rattle.refine_form.specs.Cells.{around}
@@ -104,7 +108,8 @@ test_costs setting e st b c h = by (given (value setting.program st e)) h
     by (FaultRun v k) h = absurd (cc)
     by MoreRun h = absurd (cc)
 
-pub fault_costs : (setting : Setting) (e : Expression) (st : State) (x c : ℕ) → run_result (tested setting e st) ≡ Fault x c
+pub fault_costs : (setting : Setting) (e : Expression) (st : State) (x c : ℕ)
+    → run_result (tested setting e st) ≡ Fault x c
     → 1 ≤ c
 fault_costs setting e st x c h = by (given (value setting.program st e)) h
   where
@@ -151,7 +156,8 @@ module _ (w : World) (thousand : w.rates.steps ≡ 1000) (counts : 1 ≤ w.rates
 
   end_is : (j : ℕ) (b : Bool) (end : State) → ((st : State)
       → run_result (turns w.setting j (exec w.setting n) e1 first again e2 st) ≡ says j st)
-      → run_result (turn_end w.setting (exec w.setting n) e1 again (turns w.setting j (exec w.setting n) e1 first again e2) b
+      → run_result (turn_end w.setting (exec w.setting n) e1 again
+      (turns w.setting j (exec w.setting n) e1 first again e2) b
       end) ≡ ended b (Fine end 0) (told_then (run_result (exec w.setting n again end))
       (λ c end2. told_then (run_result (tested w.setting e1 end2)) (λ c b2. looped b2 (says j end2))))
   end_is j true end ih = refl
@@ -159,14 +165,16 @@ module _ (w : World) (thousand : w.rates.steps ≡ 1000) (counts : 1 ≤ w.rates
       let go : State → Value → Run State = λ end2 v. fault_if LOOP (holds v) >>= λ z. turns w.setting j
       (exec w.setting n) e1 first again e2 end2 in
       told_bind (exec w.setting n again end) (λ end2. evaluated w.setting.program e1 end2 >>= go end2)
-      ∙ same_then (run_result (exec w.setting n again end)) (λ end2. run_result (evaluated w.setting.program e1 end2 >>= go end2))
+      ∙ same_then (run_result (exec w.setting n again end))
+      (λ end2. run_result (evaluated w.setting.program e1 end2 >>= go end2))
       (λ end2. told_then (run_result (tested w.setting e1 end2)) (λ c b2. looped b2 (says j end2))) (λ end2.
       told_bind (evaluated w.setting.program e1 end2) (go end2)
       ∙ same_then (run_result (evaluated w.setting.program e1 end2)) (λ v. run_result (go end2 v))
       (λ v. looped (holds v) (says j end2)) (λ v. looped_is j (holds v) end2 (ih end2))
       ∙ sym (told_holds (evaluated w.setting.program e1 end2) (λ b2. looped b2 (says j end2))))
 
-  pub told_turns : (j : ℕ) (st : State) → run_result (turns w.setting j (exec w.setting n) e1 first again e2 st) ≡ says j st
+  pub told_turns : (j : ℕ) (st : State) → run_result (turns w.setting j (exec w.setting n) e1 first again e2 st)
+      ≡ says j st
   told_turns zero st = refl
   told_turns (suc j) st =
       let G : State → Bool → RunResult State = λ end b. ended b (Fine end 0)
@@ -175,7 +183,8 @@ module _ (w : World) (thousand : w.rates.steps ≡ 1000) (counts : 1 ≤ w.rates
       let K : State → Value → Run State = λ end v. turn_end w.setting (exec w.setting n) e1 again
       (turns w.setting j (exec w.setting n) e1 first again e2) (holds v) end in
       told_bind (exec w.setting n first st) (λ end. evaluated w.setting.program e2 end >>= K end)
-      ∙ same_then (run_result (exec w.setting n first st)) (λ end. run_result (evaluated w.setting.program e2 end >>= K end))
+      ∙ same_then (run_result (exec w.setting n first st))
+      (λ end. run_result (evaluated w.setting.program e2 end >>= K end))
       (λ end. told_then (run_result (tested w.setting e2 end)) (λ c b. G end b)) (λ end.
       told_bind (evaluated w.setting.program e2 end) (K end)
       ∙ same_then (run_result (evaluated w.setting.program e2 end)) (λ v. run_result (K end v)) (λ v. G end (holds v))
@@ -188,13 +197,15 @@ module _ (w : World) (thousand : w.rates.steps ≡ 1000) (counts : 1 ≤ w.rates
 
   abbrev after_first : ℕ → State → RunResult State
   after_first j end = told_then (run_result (tested w.setting e2 end))
-      (λ c b. ended b (Fine end 0) (told_then (run_result (exec w.setting n again end)) (λ c end2. enters false j end2)))
+      (λ c b. ended b (Fine end 0) (told_then (run_result (exec w.setting n again end))
+      (λ c end2. enters false j end2)))
 
   flag_zero : (st : State) (m : Memory) → Flagged w s u false st m → memory_reg m FLAG ≡ 0
   flag_zero st m h = ap (λ z. memory_reg z FLAG) (as_known m _ h.regs_are)
 
   flag_one : (st : State) (m : Memory) → Flagged w s u true st m → memory_reg m FLAG ≢ 0
-  flag_one st m h e = let q : memory_reg m FLAG ≡ 1 = ap (λ z. memory_reg z FLAG) (as_known m _ h.regs_are) in omega (arith, e, q)
+  flag_one st m h e = let q : memory_reg m FLAG ≡ 1 = ap (λ z. memory_reg z FLAG) (as_known m _ h.regs_are) in
+      omega (arith, e, q)
 
   nought_zero : (v : Bool) (st : State) (m : Memory) → Flagged w s u v st m → memory_reg m NOUGHT ≡ 0
   nought_zero v st m h = ap (λ z. memory_reg z NOUGHT) (as_known m _ h.regs_are)
@@ -243,8 +254,10 @@ module _ (w : World) (thousand : w.rates.steps ≡ 1000) (counts : 1 ≤ w.rates
       ))
 
   module _ (pa pb ps pt hd : List Symbol) (h1 : FlagLaw w s e1 pa) (h2 : FlagLaw w s e2 pb)
-      (first_does : Does w.im ps d (HasOpenFrame w s u) (HasOpenFrame w s u) w.rates n 0 (λ st. run_result (exec w.setting n first st)))
-      (again_does : Does w.im pt d (HasOpenFrame w s u) (HasOpenFrame w s u) w.rates n 0 (λ st. run_result (exec w.setting n again st)))
+      (first_does : Does w.im ps d (HasOpenFrame w s u) (HasOpenFrame w s u) w.rates n 0
+      (λ st. run_result (exec w.setting n first st)))
+      (again_does : Does w.im pt d (HasOpenFrame w s u) (HasOpenFrame w s u) w.rates n 0
+      (λ st. run_result (exec w.setting n again st)))
       (hd_is : in_order d (pa ∷ check LOOP ∷ ps ∷ check LOOP ∷ pb ∷ []) ≡ hd) where
     abbrev Rounds : ℕ → Type 0
     Rounds j = (v : Bool) (st : State) (m : Memory) → Flagged w s u v st m
@@ -373,8 +386,10 @@ module _ (w : World) (thousand : w.rates.steps ≡ 1000) (counts : 1 ≤ w.rates
             quiet_then w.im d (Flagged w s u false st2) 2 (check LOOP) (pb ∷ []) m2
             (λ o. P (outcome_after k1 (outcome_after a1 (outcome_after k2 o)))) (check_passes st2 m2
             (record { regs_are = o2.regs_are; open_frame = o2.open_frame })) (λ m3 a2 i3 lb.
-            step_last w.im d (λ b m4. Flagged w s u b st2 m4) (test_rates w) n 50 pb m3 (run_result (tested w.setting e2 st2))
-            (λ o. P (outcome_after k1 (outcome_after a1 (outcome_after k2 (outcome_after a2 o))))) (h2 n d u false st2 m3 i3)
+            step_last w.im d (λ b m4. Flagged w s u b st2 m4) (test_rates w) n 50 pb m3
+            (run_result (tested w.setting e2 st2))
+            (λ o. P (outcome_after k1 (outcome_after a1 (outcome_after k2 (outcome_after a2 o)))))
+            (h2 n d u false st2 m3 i3)
             (λ b m4 c2 k3 e2_is f4 n3 l3. heading a1 k2 a2 k3 cs c2 st2 m4 b es e2_is f4 la lb n2 (thousand_is k2 cs l2)
             n3 l3)
             (λ x c3 k e l.
@@ -417,7 +432,8 @@ module _ (w : World) (thousand : w.rates.steps ≡ 1000) (counts : 1 ≤ w.rates
       PA o = Next (After_head w.im FLAG hd pt d QA) QA o
 
       abbrev Rest : Type 0
-      Rest = (c1 k1 : ℕ) → run_result (tested w.setting e1 st) ≡ Fine v c1 → c1 ≤ w.rates.counts * k1 → k1 ≤ 400 * c1 + 50
+      Rest = (c1 k1 : ℕ) → run_result (tested w.setting e1 st) ≡ Fine v c1 → c1 ≤ w.rates.counts * k1
+          → k1 ≤ 400 * c1 + 50
           → (m : Memory) → Flagged w s u false st m → Will w.im
           (in_order d (check LOOP ∷ ps ∷ check LOOP ∷ pb ∷ [])) d m (λ o. PA (outcome_after k1 o))
 
@@ -427,7 +443,8 @@ module _ (w : World) (thousand : w.rates.steps ≡ 1000) (counts : 1 ≤ w.rates
           (λ o. PA (outcome_after k1 o))
       tried go true b f_is c1 k1 e n1 l1 m h =
           let i : Flagged w s u true st m = subst (λ z. Flagged w s u z st m) f_is h in
-          let told_is : enters v jj st ≡ Fault LOOP (c1 + 0) = then_at _ b c1 (λ b. looped (bool_xor v b) (says jj st)) e
+          let told_is : enters v jj st ≡ Fault LOOP (c1 + 0) =
+          then_at _ b c1 (λ b. looped (bool_xor v b) (says jj st)) e
           ∙ ap (λ z. plus c1 (looped z (says jj st))) f_is in
           let some = test_costs w.setting e1 st b c1 e in
           let Q1 : Outcome → Type 0 = λ o. PA (outcome_after k1 o) in

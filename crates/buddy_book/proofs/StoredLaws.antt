@@ -190,7 +190,8 @@ room-empty lists at list room e empty =
 
 -- a give if the block merges
 give_above : (book : Book) (k block low : ℕ) (free : List ℕ) → 1 ≤ k → slice_get book (k - 1) ≡ Some free
-    → lower_half (2 ^ k) block free ≡ Some low → give_back book k block ≡ give_back (slice_set book (k - 1) []) (k + 1) low
+    → lower_half (2 ^ k) block free ≡ Some low → give_back book k block
+    ≡ give_back (slice_set book (k - 1) []) (k + 1) low
 give_above book zero block low free h e is = absurd (omega arith)
 give_above book (suc n) block low free h e is =
     let same : suc n - 1 ≡ n = omega arith in

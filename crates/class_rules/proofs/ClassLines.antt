@@ -132,7 +132,8 @@ inherits_parts program own class h = by (chain_of program own) refl
     by : (r : Option (List ℕ)) → chain_of program own ≡ r → Inherits program own class
     by None e =
         let nothing : class_line program own ≡ [] = ap (λ r. unwrap_or r []) e in
-        let f : list_any (λ above. nat_eq above class) (take (length (class_line program own) - 1) (class_line program own))
+        let f : list_any (λ above. nat_eq above class) (take (length (class_line program own) - 1)
+        (class_line program own))
         ≡ false = ap (λ l. list_any (λ above. nat_eq above class) (take (length l - 1) l)) nothing in
         absurd (cc)
     by (Some line) e =

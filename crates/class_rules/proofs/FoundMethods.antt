@@ -175,7 +175,8 @@ dispatched_method program accepted own class slot name own_in above h =
         class = class';
         inside = class_in;
         above = on_line_above program own class' line.shorter line.is entry.known;
-        checked = subst (λ m. check_method (setting_in program (table_of program) class') m ≡ verdict_passed) (sym method_is)
+        checked = subst (λ m. check_method (setting_in program (table_of program) class') m ≡ verdict_passed)
+            (sym method_is)
             (method_checked program accepted class' x.0.1.method entry.method class_in entry.there);
         same_types = subst (λ (m : Procedure). map (kind_of_var program) m.params
             ≡ map (kind_of_var program) (parameters_of program (dispatch_in (table_of program) class slot)))

@@ -22,7 +22,8 @@ one_more who count made serial start c d lt moves go more stop e rest =
     (go (suc more) stop e (subst (λ n. MakesSteps who n (suc more) stop c e) (left_next count made lt)
     (Made serial, d, moves, (more, refl, rest))))
 
-pub stopped_at : (who count made : ℕ) (why : Stop) (start c d : Schedule) → made < count → ProcessorMoves who (Stopped why) c d
+pub stopped_at : (who count made : ℕ) (why : Stop) (start c d : Schedule) → made < count
+    → ProcessorMoves who (Stopped why) c d
     → LeadsOn who count made start c → MakesSteps who count made (Some why) start d
 stopped_at who count made why start c d lt moves go =
     let sum : made + 0 ≡ made = omega arith in

@@ -400,7 +400,8 @@ module _ (spot : List ℕ → Spot) (free : ℕ) where
             (Code.prepare_cells spot free right (i + 1 + cells.words left)),
       )
 
-  prepared_value_cells : (e : Expression) (into : ℕ) → length (Code.prepared_value_cells spot free e into) ≤ 58 * token_count
+  prepared_value_cells : (e : Expression) (into : ℕ) → length (Code.prepared_value_cells spot free e into) ≤ 58 *
+      token_count
       e
   prepared_value_cells e into =
       let mid = cells.around (Code.open_cells spot free e 0) (cells.xor into (Code.result_of e) ∷ []) in
@@ -419,7 +420,8 @@ module _ (spot : List ℕ → Spot) (free : ℕ) where
       by true = held_value_length spot e into
       by false = prepared_value_cells e into
 
-  prepared_test_cells : (e : Expression) (into : ℕ) → length (Code.prepared_test_cells spot free e into) ≤ 58 * token_count e
+  prepared_test_cells : (e : Expression) (into : ℕ) → length (Code.prepared_test_cells spot free e into) ≤ 58 *
+      token_count e
   prepared_test_cells e into =
       let w = Code.open_cells spot free e 0 ++ cells.truth_cells TRUTH (Code.result_of e) in
       let mid = cells.around w (cells.xor into TRUTH ∷ []) in
@@ -597,7 +599,8 @@ module _ (spot : List ℕ → Spot) (free : ℕ) where
       by (Binary at p left right) (is_opened_once (Binary at p left right))
     where
       by : (e : Expression) (t : Bool) → length (if t then Code.held_update_cells spot o (spot name.text) e
-          else Code.found_update_cells spot free o (Whole name) e) ≤ 80 * (place_tokens (Whole name) + 1 + token_count e)
+          else Code.found_update_cells spot free o (Whole name) e) ≤ 80 *
+          (place_tokens (Whole name) + 1 + token_count e)
       by e true =
           let alter = Code.update_cell o CONTENT (cells.part 0) ∷ [] in
           let a = held_length spot e 0 in
@@ -610,7 +613,8 @@ module _ (spot : List ℕ → Spot) (free : ℕ) where
   update_cells o (Item name index) e = by (is_near index e)
     where
       by : (t : Bool) → length (if t then Code.near_update_cells spot o name.text index e
-          else Code.found_update_cells spot free o (Item name index) e) ≤ 80 * (3 + token_count index + 1 + token_count e)
+          else Code.found_update_cells spot free o (Item name index) e) ≤ 80 *
+          (3 + token_count index + 1 + token_count e)
       by true =
           let a = held_length spot index 2 in
           let d = held_length spot e (2 + need index) in

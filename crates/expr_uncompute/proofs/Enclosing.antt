@@ -16,7 +16,8 @@ module _ (im : Image) (w mid : List Symbol) (j least most : ℕ) (m m1 m2 m' : M
     (h : Goes w j m' m2) where
   away : (o : Outcome) → LeavesWithin m2 least most o → Next
       (λ z k. Will im (mirror_cells w) false z (λ o. LeavesWithin m' (j + (least + j)) (j + (most + j))
-      (outcome_after j (outcome_after k o)))) (λ o. LeavesWithin m' (j + (least + j)) (j + (most + j)) (outcome_after j o)) o
+      (outcome_after j (outcome_after k o)))) (λ o. LeavesWithin m' (j + (least + j)) (j + (most + j))
+      (outcome_after j o)) o
   away _ (leaves_within k lo hi) = will_of im (mirror_cells w) false m2 (Done m' j) _
       ((mirror_law w).turns im false m2 (Done m' j) (h.back im))
       (leaves_within (j + (k + j)) (omega arith) (omega arith))
@@ -40,11 +41,13 @@ module _ (im : Image) (w mid : List Symbol) (j least most : ℕ) (m m1 m2 m' : M
 -- it traps, and so does the whole
 module _ (im : Image) (w mid : List Symbol) (j code most : ℕ) (m m1 : Memory) (g : Goes w j m m1) where
   stop : (o : Outcome) → TrapsWithin code most o → Next (λ z k. Will im (mirror_cells w) false z
-      (λ o. TrapsWithin code (j + most) (outcome_after j (outcome_after k o)))) (λ o. TrapsWithin code (j + most) (outcome_after j o)) o
+      (λ o. TrapsWithin code (j + most) (outcome_after j (outcome_after k o))))
+      (λ o. TrapsWithin code (j + most) (outcome_after j o)) o
   stop _ (traps_within k hi) = traps_within (j + k) (omega arith)
 
   stop_back : (o : Outcome) → TrapsWithin code most o → Next
-      (λ z k. Will im w true z (λ o. TrapsWithin code (j + most) (outcome_after k o))) (TrapsWithin code (j + most)) (outcome_after j o)
+      (λ z k. Will im w true z (λ o. TrapsWithin code (j + most) (outcome_after k o))) (TrapsWithin code (j + most))
+      (outcome_after j o)
   stop_back _ (traps_within k hi) = traps_within (j + k) (omega arith)
 
   pub traps_in_middle : (d : Bool) → Will im mid d m1 (TrapsWithin code most)

@@ -10,7 +10,8 @@ use Rattle.expr_uncompute.proofs.Whole
 use Rattle.expr_uncompute.proofs.Statements
 
 module _ (spot : List ℕ → Spot) (free : ℕ) where
-  pub value_law : (into : ℕ) (e : Expression) → Target into → ExpressionLaw spot free into e (value_cells spot free e into)
+  pub value_law : (into : ℕ) (e : Expression) → Target into
+      → ExpressionLaw spot free into e (value_cells spot free e into)
   value_law into e t = record { xors = λ im d m r s. Whole.value_law spot free into e m t r s im d }
 
   pub test_law : (into : ℕ) (e : Expression) → Target into → ConditionLaw spot free into e (test_cells spot free e into)

@@ -98,7 +98,8 @@ module _ (spot : List ℕ → Spot) (free : ℕ) (m : Memory) where
       → SeesIn spot free m (lvalue_read target) → SeesIn spot free m e → SeesIn spot free m e'
       → place_address spot (bases_of m) m.cells target ≡ Ok a → shares spot (bases_of m) m.cells target e e' ≡ false
       → Goes (place_cells spot free target 0 PLACE ++ apart_cells spot target e e')
-      (place_steps target + apart_steps target e e') m (found_memory 0 a 0 (placed spot free (bases_of m) target 0 m.cells)
+      (place_steps target + apart_steps target e e') m (found_memory 0 a 0
+      (placed spot free (bases_of m) target 0 m.cells)
       m)
   place_held target e e' a h s t t' n apart =
       let ys : List ℕ = placed spot free (bases_of m) target 0 m.cells in
@@ -161,10 +162,12 @@ module _ (spot : List ℕ → Spot) (free : ℕ) (m : Memory) where
       goes_seq (places_found target other a a' h na na')
       (goes_to refl (shown_as (place_words target + place_words other) h.ready 0 a a' ys)
       (shown_as (place_words target + place_words other) h.ready 0 a a' ys)
-      (apart_goes spot (bases_of m) (memory_reg m FRAME + free) (memory_reg m) 0 a a' ys (omega arith) (omega arith) other
+      (apart_goes spot (bases_of m) (memory_reg m FRAME + free) (memory_reg m) 0 a a' ys (omega arith) (omega arith)
+      other
       (index_of target) (index_of other) (sees_same spot (bases_of m) (memory_reg m FRAME + free) m.cells ys k.below
       (lvalue_read other) h.second) (sees_same spot (bases_of m) (memory_reg m FRAME + free) m.cells ys k.below
-      (index_of target) i) (sees_same spot (bases_of m) (memory_reg m FRAME + free) m.cells ys k.below (index_of other) j)
+      (index_of target) i) (sees_same spot (bases_of m) (memory_reg m FRAME + free) m.cells ys k.below (index_of other)
+      j)
       (shares_same spot (bases_of m) (memory_reg m FRAME + free) m.cells ys k.below other (index_of target)
       (index_of other) h.second i j ∙ apart)))
 
@@ -187,7 +190,8 @@ module _ (spot : List ℕ → Spot) (free : ℕ) (m : Memory) where
       let j = index_seen spot (bases_of m) (memory_reg m FRAME + free) other m.cells h.second in
       let traps : Traps (apart_cells spot other (index_of target) (index_of other))
       (apart_steps other (index_of target) (index_of other)) 16 (mem (bases_of m) (memory_reg m) (keeping 0 a a') ys) =
-      apart_traps spot (bases_of m) (memory_reg m FRAME + free) (memory_reg m) 0 a a' ys (omega arith) (omega arith) other
+      apart_traps spot (bases_of m) (memory_reg m FRAME + free) (memory_reg m) 0 a a' ys (omega arith) (omega arith)
+      other
       (index_of target) (index_of other) (sees_same spot (bases_of m) (memory_reg m FRAME + free) m.cells ys k.below
       (lvalue_read other) h.second) (sees_same spot (bases_of m) (memory_reg m FRAME + free) m.cells ys k.below
       (index_of target)

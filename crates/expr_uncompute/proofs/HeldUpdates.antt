@@ -22,7 +22,8 @@ use Rattle.expr_uncompute.specs.Code.{update_cell}
 use Rattle.register_expressions.specs.Code.{held_cells, element_cells}
 use Rattle.expr_uncompute.specs.Code.{held_update_cells, near_middle, near_update_cells}
 use Rattle.register_expressions.specs.Held.{need, has_element, kind}
-use Rattle.register_expressions.specs.Number.{Bases, spot_address, word_given, word_of, number, element_at, IsArray, Sees}
+use Rattle.register_expressions.specs.Number.{Bases, spot_address, word_given, word_of, number, element_at, IsArray}
+use Rattle.register_expressions.specs.Number.{Sees}
 use Rattle.register_expressions.specs.Number.{Same}
 use Rattle.register_expressions.specs.Steps.{around_steps, element_steps, held_steps}
 use Rattle.expr_uncompute.specs.Steps.{near_update_steps, operand_steps, prepare_steps}
@@ -195,7 +196,8 @@ module _ (b : Bases) (spot : List ℕ → Spot) (low : ℕ) (zs zs' : List ℕ) 
   module _ (op : UpdateOp) (e : Expression) (a v k : ℕ) (few : k + need e < 10) (plain : has_element e ≡ false)
       (below : a < length zs) (sees : Sees spot b low zs e) (same : Same spot b zs zs' e)
       (value : number spot b zs e ≡ Ok v) (made : zs' ≡ slice_set zs a (updated op (slice_index zs a) v)) where
-    abbrev opened : Opens 32 b either (held_cells spot e k) (held_steps e) k (k + need e) (word_given (number spot b zs e))
+    abbrev opened : Opens 32 b either (held_cells spot e k) (held_steps e) k (k + need e)
+        (word_given (number spot b zs e))
     opened = opens_of e k few plain sees same
 
     abbrev wide : Changes 32 b either (held_cells spot e k) (held_steps e) k 9
@@ -252,7 +254,8 @@ module _ (b : Bases) (spot : List ℕ → Spot) (low : ℕ) (zs zs' : List ℕ) 
     stands_after = has_element_at spot b low zs' (word_of spot b zs' name.text) x sees'.1 n'.array_is
         (let p = n'.below in let q = x_is in omega arith) (omega arith) (omega arith)
 
-    stands : (ws : List ℕ) → either ws → HasElement (word_of spot b zs name.text) (word_given (number spot b zs index)) ws
+    stands : (ws : List ℕ) → either ws → HasElement (word_of spot b zs name.text) (word_given (number spot b zs index))
+        ws
     stands ws (inl q) = subst (λ u. HasElement arr x u) (sym q) stands_before
     stands ws (inr q) = subst (λ u. HasElement arr x u) (sym q)
         (subst (λ y. HasElement y x zs') same_array stands_after)

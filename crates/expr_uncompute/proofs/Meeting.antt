@@ -44,7 +44,8 @@ module _ (address slot : ℕ → ℕ) (program : Source) (spot : List ℕ → Sp
       sees means)
     where
       by : (r : Result Value ℕ) → Xored into (value_steps e) m (shown_result address slot r) im p d
-          → Will im p d m (Meets (λ v m1. m1 ≡ memory_with_reg m into (bit_xor (memory_reg m into) (shown address slot v))) b n 0
+          → Will im p d m (Meets (λ v m1. m1 ≡ memory_with_reg m into
+          (bit_xor (memory_reg m into) (shown address slot v))) b n 0
           (told_value (nodes e) r))
       by (Ok v) r = will_of im p d m _ _ r (fine refl (rated 3 b.counts (nodes e) (value_steps e) few (value_least e))
           (let h = rated 162 b.steps (value_steps e) (nodes e) many (value_most e) in omega arith))
@@ -60,7 +61,8 @@ module _ (address slot : ℕ → ℕ) (program : Source) (spot : List ℕ → Sp
     where
       by : (r : Result Value ℕ) → IsInt address slot r → Xored into (test_steps e) m
           (truth_of (shown_result address slot r)) im p d → Will im p d m
-          (Meets (λ t m1. m1 ≡ memory_with_reg m into (bit_xor (memory_reg m into) (truth_word t))) b n 0 (told_test (nodes e) r))
+          (Meets (λ t m1. m1 ≡ memory_with_reg m into (bit_xor (memory_reg m into) (truth_word t))) b n 0
+          (told_test (nodes e) r))
       by (Ok v) i r = will_of im p d m _ _ r (fine (ap (λ x. memory_with_reg m into
           (bit_xor (memory_reg m into) (truth_word (is_true x)))) (sym i))
           (rated 3 b.counts (nodes e) (test_steps e) few (let l = test_least e in omega arith))

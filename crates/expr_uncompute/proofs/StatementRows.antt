@@ -46,7 +46,8 @@ module _ (setting : Setting) (address slot : State → ℕ → ℕ) (R : State �
   pub record UpdateFacts (op : UpdateOp) (target : Lvalue) (e : Expression) : Type 0 where
     pub tells : (st : State) (m : Memory) → R st m → TellsShares (address st) (slot st) setting.program st spot
         (bases_of m) m.cells target (index_of target) e
-    pub can : (st : State) (m : Memory) → R st m → CanEvaluate spot free (place_words target + words e) (lvalue_read target)
+    pub can : (st : State) (m : Memory) → R st m → CanEvaluate spot free (place_words target + words e)
+        (lvalue_read target)
         e m
     pub place_means : (st : State) (m : Memory) → R st m → MeansPlace (address st) (slot st) setting.program st spot
         (bases_of m) m.cells target
@@ -131,7 +132,8 @@ module _ (setting : Setting) (address slot : State → ℕ → ℕ) (R : State �
 
       -- so an update's fragment does what the source does
       pub update_does : (d : Bool) (at k : ℕ) (run : Runner)
-          → Does im p d R R b n 0 (λ st. run_result (after_cost 1 (statement setting k run (facing d (Update at op target e))
+          → Does im p d R R b n 0 (λ st. run_result (after_cost 1
+          (statement setting k run (facing d (Update at op target e))
           st)))
       update_does d at k run = record {
         does = λ st m h. subst (λ r. Will im p d m (Meets R b n 0 (run_result r))) (sym (statement_is d at k run st))

@@ -102,7 +102,8 @@ module _ (spot : List ℕ → Spot) (free : ℕ) (m : Memory) where
   -- a run over the registers as they are known
   run_cells : (n : ℕ) → Ready free n m → (im : Image) (d : Bool) (p : List Symbol) (cells : List ℕ) (k : ℕ)
       → Runs im p d (mem (bases_of m) (memory_reg m) (keeping 0 0 0) m.cells)
-      (Done (mem (bases_of m) (memory_reg m) (keeping 0 0 0) cells) k) → Runs im p d m (Done (record m { cells = cells }) k)
+      (Done (mem (bases_of m) (memory_reg m) (keeping 0 0 0) cells) k)
+      → Runs im p d m (Done (record m { cells = cells }) k)
   run_cells n h im d p cells k r =
       let same = as_mem free n m h in
       let t : record m { cells = cells } ≡ mem (bases_of m) (memory_reg m) (keeping 0 0 0) cells =
@@ -170,16 +171,19 @@ module _ (spot : List ℕ → Spot) (free : ℕ) (m : Memory) where
         fit' : (d : Bool) → UpdateStays spot (bases_of m) (memory_reg m FRAME + free) target value m.cells
             (updated_at d op a v m.cells)
             → FitFrom spot free (bases_of m) target (words value) (updated_at d op a v m.cells)
-        fit' d s = fit_set target (words value) a _ fit al (updated_word (turned_operator d op) (slice_index m.cells a) v
+        fit' d s = fit_set target (words value) a _ fit al (updated_word (turned_operator d op) (slice_index m.cells a)
+            v
             (ready.words a) vw) s.place_sees
 
         either : (d : Bool) → UpdateStays spot (bases_of m) (memory_reg m FRAME + free) target value m.cells
             (updated_at d op a v m.cells) → Runs im (update_cells spot free op target value) d
             (mem (bases_of m) (memory_reg m) (keeping 0 0 0) m.cells)
-            (Done (mem (bases_of m) (memory_reg m) (keeping 0 0 0) (updated_at d op a v m.cells)) (update_steps target value))
+            (Done (mem (bases_of m) (memory_reg m) (keeping 0 0 0) (updated_at d op a v m.cells))
+            (update_steps target value))
         either false s =
             let zs' : List ℕ = updated_at false op a v m.cells in
-            (update_goes spot free (bases_of m) (memory_reg m) op target value m.cells zs' a v fit (fit' false s) value_sees
+            (update_goes spot free (bases_of m) (memory_reg m) op target value m.cells zs' a v fit (fit' false s)
+            value_sees
             s.value_sees na (place_kept target m.cells zs' a s.place_same na) nv
             (same_number spot free (bases_of m) value m.cells zs' s.value_same ∙ nv) s.place_same s.value_same
             apart s.apart refl).ahead im

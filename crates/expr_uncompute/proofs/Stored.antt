@@ -154,7 +154,8 @@ module _ (spot : List ℕ → Spot) (free : ℕ) (b : Bases) where
       ap (λ n. slice_set (stored index (i + 1) (write zs)) (home i) (word_given n)) h.0
       ∙ ap (λ ys. slice_set ys (home i) (word_given (number spot b zs (Element name index))))
       (stored_written write w index (i + 1) zs s.2 s'.2 h.1)
-      ∙ sym (w.passes (stored index (i + 1) zs) (home i) (word_given (number spot b zs (Element name index))) (omega arith))
+      ∙ sym (w.passes (stored index (i + 1) zs) (home i) (word_given (number spot b zs (Element name index)))
+      (omega arith))
   stored_written write w (Binary at op left right) i zs s s' h =
       let j : ℕ = i + 1 + words left in
       let zs1 : List ℕ = stored left (i + 1) zs in
@@ -162,7 +163,8 @@ module _ (spot : List ℕ → Spot) (free : ℕ) (b : Bases) where
       let below = stored_below left (i + 1) zs in
       let below' : Agree (b.frame + free) (write zs) (write zs1) =
       w.lifts zs zs1 (stored_length left (i + 1) zs) below in
-      ap (λ n. slice_set (stored right (i + 1 + words left) (stored left (i + 1) (write zs))) (home i) (word_given n)) h.0
+      ap (λ n. slice_set (stored right (i + 1 + words left) (stored left (i + 1) (write zs))) (home i) (word_given n))
+      h.0
       ∙ ap (λ ys. slice_set (stored right (i + 1 + words left) ys) (home i) n)
       (stored_written write w left (i + 1) zs s.0 s'.0 h.1)
       ∙ ap (λ ys. slice_set ys (home i) n) (stored_written write w right j zs1

@@ -105,7 +105,8 @@ module _ (setting : Setting) (address slot : State → ℕ → ℕ) (R : State �
   pub record UpdateNeeds (target : Lvalue) (e : Expression) : Type 0 where
     pub tells : (st : State) (m : Memory) → R st m → TellsShares (address st) (slot st) setting.program st spot
         (bases_of m) m.cells target (index_of target) e
-    pub can : (st : State) (m : Memory) → R st m → CanEvaluate spot free (place_words target + words e) (lvalue_read target)
+    pub can : (st : State) (m : Memory) → R st m → CanEvaluate spot free (place_words target + words e)
+        (lvalue_read target)
         e m
     pub place_means : (st : State) (m : Memory) → R st m → MeansPlace (address st) (slot st) setting.program st spot
         (bases_of m) m.cells target

@@ -78,7 +78,8 @@ module _ (spot : List ℕ → Spot) (free : ℕ) (b : Bases) where
         (parted_room spot free b e i zs fit) d.parts (parted_number spot free b e i zs fit ∙ n)
 
     gives : (f : ℕ → ℕ) (v : ℕ) → number spot b zs e ≡ Ok v → (zs' : List ℕ)
-        → memory_reg (mem (based spot free b e) f (opened spot free b m p q (parted spot free b e i zs) e) zs') (result_of e)
+        → memory_reg (mem (based spot free b e) f (opened spot free b m p q (parted spot free b e i zs) e) zs')
+        (result_of e)
         ≡ v
     gives f v n zs' = open_gives spot free b m p q f e v whole_parts zs' (parted_number spot free b e i zs fit ∙ n)
 

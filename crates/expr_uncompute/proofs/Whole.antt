@@ -107,7 +107,8 @@ module _ (spot : List ℕ → Spot) (free into : ℕ) (e : Expression) (m : Memo
         → Runs im p d m (Done (memory_with_reg m into x) k)
     run_of p x k r =
         let t : memory_with_reg m into x ≡ mem (bases_of m) (written (memory_reg m) into x) (keeping 0 0 0) m.cells =
-        ap (λ z. memory_with_reg z into x) same ∙ target_set b (memory_reg m) (keeping 0 0 0) m.cells into x (target_is into target)
+        ap (λ z. memory_with_reg z into x) same ∙ target_set b (memory_reg m) (keeping 0 0 0) m.cells into x
+        (target_is into target)
         in
         subst (λ z. Runs im p d z (Done (memory_with_reg m into x) k)) (sym same)
         (subst (λ z. Runs im p d seen (Done z k)) (sym t) r)

@@ -22,9 +22,11 @@ behind_twice old line f = ap (λ (text : List ℕ). found_at f.position text f.h
 
 points_by : (way : Command) (m : ℕ) (p : Position) (stuck : Bool) → is_stuck way p ≡ stuck
     → image_points way (suc m) p
-    ≡ (if stuck then image_found way p Stopped else image_behind_line (text_of way p) (image_points way m (led_to way p)))
+    ≡ (if stuck then image_found way p Stopped else image_behind_line (text_of way p)
+    (image_points way m (led_to way p)))
 points_by way m p stuck is =
-    ap (λ (b : Bool). if b then image_found way p Stopped else image_behind_line (text_of way p) (image_points way m (led_to way p))) is
+    ap (λ (b : Bool). if b then image_found way p Stopped else image_behind_line (text_of way p)
+    (image_points way m (led_to way p))) is
 
 -- so many moves were made, and their lines come before those of the others
 pub record IsListing (way : Command) (n i : ℕ) (start now : Position) (text : List ℕ) : Type 0 where

@@ -32,7 +32,8 @@ no_moves next j (Some text) f e = ap (more next) e
 by_tests : (told : Told) (few many next : ℕ → Option Found) (f : Found) (a b : Bool)
     → ((i : ℕ) → few i ≡ Some f → many i ≡ more next (Some f))
     → (if a then search_found told Stopped else if b then search_found told Met else few told.position) ≡ Some f
-    → (if a then search_found told Stopped else if b then search_found told Met else many told.position) ≡ more next (Some f)
+    → (if a then search_found told Stopped else if b then search_found told Met else many told.position)
+    ≡ more next (Some f)
 by_tests told few many next f true b h e = ap (more next) e
 by_tests told few many next f false true h e = ap (more next) e
 by_tests told few many next f false false h e = h told.position e

@@ -99,8 +99,10 @@ limit_set R p limit most line request old new result is sets puts =
 pub line_unread : {P : Type 0} (R : (limit : Option ℕ) → Replier P) (p : P) (limit : Option ℕ) (line : List ℕ)
     (old new : TalkPrinted) (result : Option ℕ) → is_quit (request_of line) ≡ false
     → PutsText (end_line end.Memory) old new result
-    → PutsBy (IsReply (WithLimits R) (Line line) (held_run p limit)) (quits (Line line)) ⊤ (held_run p limit) (held_run p limit)
+    → PutsBy (IsReply (WithLimits R) (Line line) (held_run p limit)) (quits (Line line)) ⊤ (held_run p limit)
+    (held_run p limit)
     old new result
 line_unread R p limit line old new result on puts =
-    by_text (IsReply (WithLimits R) (Line line) (held_run p limit)) (quits (Line line)) ⊤ (held_run p limit) (held_run p limit)
+    by_text (IsReply (WithLimits R) (Line line) (held_run p limit)) (quits (Line line)) ⊤ (held_run p limit)
+    (held_run p limit)
     old new result (end_line end.Memory) puts (inr (refl, refl)) on

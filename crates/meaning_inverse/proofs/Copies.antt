@@ -5,11 +5,14 @@ use Rattle.std.proofs.Common.{unwrap_or, slice_get}
 use Rattle.meaning_reached.specs.rpp_tree.declared.tree.VarType.{VarType}
 use Rattle.meaning_reached.specs.rpp_tree.Tree.{Lvalue, Copy, Uncopy, End, Then, index_nodes}
 use Rattle.meaning_reached.specs.roopl_semantics.Run.{Run, Done, ◌>>=◌, give, fault_if}
-use Rattle.meaning_reached.specs.roopl_semantics.Store.{Value, Word, Nil, Name, Object, State, is_nil, number_of, same_value}
+use Rattle.meaning_reached.specs.roopl_semantics.Store.{Value, Word, Nil, Name, Object, State, is_nil, number_of}
+use Rattle.meaning_reached.specs.roopl_semantics.Store.{same_value}
 use Rattle.meaning_reached.specs.roopl_semantics.Store.{object_named, no_object, changed_at}
 use Rattle.meaning_reached.specs.roopl_semantics.Value.{Cell, Slot, Part, read, written, cell_of, found, NIL}
-use Rattle.meaning_reached.specs.roopl_semantics.Elements.{index_elements, own_element, share_array, read_cost, kept_apart}
-use Rattle.meaning_reached.specs.roopl_semantics.Execution.{Setting, statement, exec, same_cell, count_changed, one_less, NOT_NIL}
+use Rattle.meaning_reached.specs.roopl_semantics.Elements.{index_elements, own_element, share_array, read_cost}
+use Rattle.meaning_reached.specs.roopl_semantics.Elements.{kept_apart}
+use Rattle.meaning_reached.specs.roopl_semantics.Execution.{Setting, statement, exec, same_cell, count_changed}
+use Rattle.meaning_reached.specs.roopl_semantics.Execution.{one_less, NOT_NIL}
 use Rattle.meaning_reached.specs.roopl_semantics.Execution.{NOT_SAME}
 use Rattle.meaning_reached.specs.roopl_semantics.Agreement.{renamed}
 use Rattle.meaning_inverse.proofs.Runs.{in_parts, done_then, done_result, done_cost, given_done, apart_done, done_apart}
@@ -132,7 +135,8 @@ module _ (setting : Setting) (G : Ground setting) where
       let unshared = done_apart setting.program (own_element target) (index_elements source ++ index_elements target) b'
       (share_seen h f b b' sees setting.program (own_element target)
       (index_elements source ++ index_elements target) ∙ subst S is facts.apart_stays) in
-      let result : uncopied b' x' y' ≡ back = ap (λ v. count_changed one_less (written b' y' Nil) (number_of v)) reads_x' in
+      let result : uncopied b' x' y' ≡ back = ap (λ v. count_changed one_less (written b' y' Nil) (number_of v))
+      reads_x' in
       let check : not (same_value (read b' x') (read b' y')) || same_cell x' y' ≡ false =
       both_hold (same_value (read b' x') (read b' y')) (same_cell x' y')
       (ap (λ v. same_value v (read b' y')) reads_x' ∙ ap (λ v. same_value (Name (f.there n)) v) reads_y'
@@ -236,7 +240,8 @@ module _ (setting : Setting) (G : Ground setting) where
       let same : count_changed suc (written b y (Name n)) n ≡ a =
       ap (λ s. count_changed suc (written s y (Name n)) n) first
       ∙ ap (λ s. count_changed suc s n) (written_counted one_less (written a y Nil) n y (Name n))
-      ∙ ap (λ s. count_changed suc (count_changed one_less s n) n) (written_twice a y Nil (Name n) ∙ ap (written a y) (sym holds_y)
+      ∙ ap (λ s. count_changed suc (count_changed one_less s n) n)
+      (written_twice a y Nil (Name n) ∙ ap (written a y) (sym holds_y)
       ∙ written_same a y)
       ∙ counted_twice one_less suc a n (λ o e. (let some = G.counts C a good x n o facts.is_name e in
       positive o.count some)) in

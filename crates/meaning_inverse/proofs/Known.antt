@@ -2,30 +2,36 @@
 use Rattle.std.proofs.Common.{◌≡◌, ℕ, suc, ◌+◌, ◌<◌, ◌≤◌, refl, sym, ap, subst, ◌∙◌, arith, true, false, Bool, not}
 use Rattle.std.proofs.Common.{◌&&◌, List, [], ◌∷◌, ◌++◌, length, map, Option, Some, None, option_map, unwrap_or, Ok}
 use Rattle.std.proofs.Common.{Err, Result, nat_eq, is_some, slice_get, if◌then◌else◌, eqb-true}
-use Rattle.meaning_reached.specs.rpp_tree.Tree.{Expression, Number, Null, Variable, Element, Binary, Lvalue, Whole, Item, Statements}
+use Rattle.meaning_reached.specs.rpp_tree.Tree.{Expression, Number, Null, Variable, Element, Binary, Lvalue, Whole}
+use Rattle.meaning_reached.specs.rpp_tree.Tree.{Item, Statements}
 use Rattle.meaning_reached.specs.rpp_tree.Tree.{Source}
 use Rattle.meaning_reached.specs.class_rules.declared.kind.Kind.{Kind}
 use Rattle.meaning_reached.specs.class_rules.declared.kind.Kind.TheVariants as kind
 use Rattle.meaning_reached.specs.class_rules.Table.{Table, table_of}
 use Rattle.meaning_reached.specs.class_rules.Scope.{Typing, Locals}
 use Rattle.meaning_reached.specs.class_rules.Refusal.{type_differs, refused_operator}
-use Rattle.meaning_reached.specs.class_rules.Expressions.{is_int, element_kind_of as element_type, index_is_int, variable_type, type_of}
-use Rattle.meaning_reached.specs.class_rules.Expressions.{place_type, is_comparison, is_refused, compares, operands_fit, operator_type}
+use Rattle.meaning_reached.specs.class_rules.Expressions.{is_int, element_kind_of as element_type, index_is_int}
+use Rattle.meaning_reached.specs.class_rules.Expressions.{variable_type, type_of}
+use Rattle.meaning_reached.specs.class_rules.Expressions.{place_type, is_comparison, is_refused, compares, operands_fit}
+use Rattle.meaning_reached.specs.class_rules.Expressions.{operator_type}
 use Rattle.meaning_reached.specs.class_rules.Expressions.{first_token}
 use Rattle.meaning_reached.specs.class_rules.Statements.{verdict_passed, check_statements}
 use Rattle.meaning_reached.specs.class_rules.Program.{setting_in}
 use Rattle.meaning_reached.specs.buddy_book.Place.{block_of, count_taken}
 use Rattle.meaning_reached.proofs.buddy_book_laws.Kept.{given_back}
-use Rattle.meaning_reached.specs.roopl_semantics.Store.{Value, Word, Nil, Name, Head, Object, Store, Binding, State, main_name}
+use Rattle.meaning_reached.specs.roopl_semantics.Store.{Value, Word, Nil, Name, Head, Object, Store, Binding, State}
+use Rattle.meaning_reached.specs.roopl_semantics.Store.{main_name}
 use Rattle.meaning_reached.specs.roopl_semantics.Store.{object_named, object_at, no_object}
 use Rattle.meaning_reached.specs.roopl_semantics.Value.{Cell, Slot, Part, read, value as value_in}
 use Rattle.meaning_reached.specs.roopl_semantics.Execution.{Setting, order_of_cells}
 use Rattle.meaning_reached.specs.roopl_semantics.Laws.{one_if_name}
-use Rattle.meaning_reached.specs.meaning_sound.Sound.{Sound, Descending, entry_name, is_of_kind, named_fits, head_of, head_named, count_of}
+use Rattle.meaning_reached.specs.meaning_sound.Sound.{Sound, Descending, entry_name, is_of_kind, named_fits, head_of}
+use Rattle.meaning_reached.specs.meaning_sound.Sound.{head_named, count_of}
 use Rattle.meaning_reached.specs.meaning_sound.Sound.{is_live, cell_kinds, local_type, bound_value, held, cell_kind}
 use Rattle.meaning_reached.specs.meaning_sound.Plain.{HasWords, PlaceHasWords, IsPlain}
 use Rattle.meaning_reached.proofs.meaning_sound_laws.Lists.{all_inside, all_length, holders_get}
-use Rattle.meaning_reached.proofs.meaning_sound_laws.Stores.{live_object, live_named, holders_inside, none_above, below_bound}
+use Rattle.meaning_reached.proofs.meaning_sound_laws.Stores.{live_object, live_named, holders_inside, none_above}
+use Rattle.meaning_reached.proofs.meaning_sound_laws.Stores.{below_bound}
 use Rattle.meaning_reached.specs.meaning_sound.Sound.{Typed}
 use Rattle.meaning_reached.proofs.meaning_sound_laws.Cells.{typed_of, part_of, value_at_is}
 use Rattle.meaning_reached.proofs.meaning_sound_laws.Classes.{KnowsClasses}
@@ -58,7 +64,8 @@ pub record Good (setting : Setting) (C : Context setting) (st : State) : Type 0 
   pub arrays : ArraysHaveElements st.store
 
 pub record Checked (setting : Setting) (C : Context setting) (body : Statements) : Type 0 where
-  pub passes : check_statements (setting_in setting.program (table_of setting.program) C.class) C.locals body ≡ verdict_passed
+  pub passes : check_statements (setting_in setting.program (table_of setting.program) C.class) C.locals body
+      ≡ verdict_passed
   pub plain : IsPlain body
 
 -- ---- names
@@ -236,7 +243,8 @@ module _ (setting : Setting) (classes : KnowsClasses setting.program) (C : Conte
             (value_fits setting classes C.extra C.locals C.shape C.class C.inside C.means st right r.value t w.1 r.is),
       )
     where
-      fit : (a b : Kind) → operands_fit typing.table o a b ≡ true → (x y : Value) → is_of_kind program st.store x a ≡ true
+      fit : (a b : Kind) → operands_fit typing.table o a b ≡ true → (x y : Value)
+          → is_of_kind program st.store x a ≡ true
           → is_of_kind program st.store y b ≡ true → AreFit (is_comparison o) x y
       fit a b h x y f g = by (is_comparison o) h
         where

@@ -5,10 +5,12 @@ use Rattle.std.proofs.Common.{eq-eqb, ne_eqb, if◌then◌else◌}
 use Rattle.meaning_reached.specs.code_conventions.declared.memory.TheConstants.{HEADER_WORDS}
 use Rattle.meaning_reached.specs.buddy_book.Book.{Book, take, give_back, order_from}
 use Rattle.meaning_reached.specs.buddy_book.Shown.{is_sound}
-use Rattle.meaning_reached.specs.buddy_book.Place.{Log, Taken, Given, count_taken, Placing, block_of, without_name, with_block}
+use Rattle.meaning_reached.specs.buddy_book.Place.{Log, Taken, Given, count_taken, Placing, block_of, without_name}
+use Rattle.meaning_reached.specs.buddy_book.Place.{with_block}
 use Rattle.meaning_reached.specs.buddy_book.Place.{after_request, place}
 use Rattle.meaning_reached.proofs.buddy_book_laws.Orders.{take_took}
-use Rattle.meaning_reached.specs.roopl_semantics.Store.{Value, Nil, Name, Head, Object, Store, State, main_name, object_named}
+use Rattle.meaning_reached.specs.roopl_semantics.Store.{Value, Nil, Name, Head, Object, Store, State, main_name}
+use Rattle.meaning_reached.specs.roopl_semantics.Store.{object_named}
 use Rattle.meaning_reached.specs.roopl_semantics.Store.{changed_at, without}
 use Rattle.meaning_reached.specs.roopl_semantics.Value.{Cell, Part, with_value, read, written}
 use Rattle.meaning_reached.specs.roopl_semantics.Execution.{order_of_cells, new_object}
@@ -49,7 +51,8 @@ given_book : (p q : Option Placing) (n n' o : ℕ) → book_of q ≡ book_of p �
 given_book None None n n' o e h = refl
 given_book None (Some q) n n' o e h = cc
 given_book (Some p) None n n' o e h = cc
-given_book (Some p) (Some q) n n' o e h = ap (λ b. Some (give_back b o (block_of q.blocks n'))) (same_Some q.book p.book e)
+given_book (Some p) (Some q) n n' o e h = ap (λ b. Some (give_back b o (block_of q.blocks n')))
+    (same_Some q.book p.book e)
     ∙ ap (λ k. Some (give_back p.book o k)) (same_Some (block_of q.blocks n') (block_of p.blocks n) h)
 
 given_block : (p q : Option Placing) (n n' m m' o : ℕ) → nat_eq n m ≡ false → nat_eq n' m' ≡ false

@@ -1,7 +1,8 @@
 -- A step of the reversed machine undoes a step.
 use Rattle.std.proofs.Common.{◌≡◌, ℕ, ◌+◌, refl, sym, ap, ◌∙◌, Bool, true, false, not, List, ◌∷◌, ◌++◌, map}
 use Rattle.std.proofs.Common.{if◌then◌else◌}
-use Rattle.meaning_points.specs.rpp_tree.Tree.{Expression, Statement, Statements, If, From, End, Then, joined, Procedure}
+use Rattle.meaning_points.specs.rpp_tree.Tree.{Expression, Statement, Statements, If, From, End, Then, joined}
+use Rattle.meaning_points.specs.rpp_tree.Tree.{Procedure}
 use Rattle.meaning_points.specs.inverse_rules.Inverse.{inverse_statement, inverse}
 use Rattle.meaning_points.specs.roopl_semantics.Run.{Done, More, after_cost, ◌>>=◌, give, fault_if}
 use Rattle.meaning_points.specs.roopl_semantics.Store.{Value, State}
@@ -182,7 +183,8 @@ module _ (setting : Setting) where
       → ((x : Config) (rest : Statements) → begun setting x (inverse_statement s) rest
       ≡ simply setting x (inverse_statement s) rest)
       → statement setting 0 (λ body st. More) (inverse_statement s) end ≡ Done st c
-      → StepsBack setting (config_before past (Then s rest) params around st) (config_before (Then s past) rest params around end)
+      → StepsBack setting (config_before past (Then s rest) params around st)
+      (config_before (Then s past) rest params around end)
   simple_done s past rest params around st end c simple e =
       let x : Config = config_before past (Then s rest) params around st in
       let y : Config = config_before (Then s past) rest params around end in

@@ -5,10 +5,12 @@ use Rattle.meaning_points.specs.roopl_semantics.Run.{Run, Done, Fault, More, ◌
 use Rattle.meaning_points.specs.roopl_semantics.Store.{Value, State}
 use Rattle.meaning_points.specs.roopl_semantics.Value.{evaluated}
 use Rattle.meaning_points.specs.roopl_semantics.Execution.{Setting, FI, LOOP, holds}
-use Rattle.meaning_machine.specs.Machine.{OpenPart, Chosen, First, Again, Open, Config, turned_first, begun, ended, next}
+use Rattle.meaning_machine.specs.Machine.{OpenPart, Chosen, First, Again, Open, Config, turned_first, begun, ended}
+use Rattle.meaning_machine.specs.Machine.{next}
 use Rattle.meaning_machine.specs.MachineLaws.{config_before}
 use Rattle.meaning_machine.specs.Turned.{unwound, StepsBack}
-use Rattle.meaning_machine.specs.Placed.{RunsIn, side, first, again, object, local, element, body, IsBodyPlaced, IsBranch}
+use Rattle.meaning_machine.specs.Placed.{RunsIn, side, first, again, object, local, element, body, IsBodyPlaced}
+use Rattle.meaning_machine.specs.Placed.{IsBranch}
 use Rattle.meaning_machine.specs.Placed.{IsBranchPart, Branches, BranchesStepBack}
 use Rattle.meaning_machine.proofs.Back.{if_entered, if_left, loop_entered, loop_left, loop_again, loop_turned}
 use Rattle.meaning_machine.proofs.Placing.{Ends, ends_after, ends_done}
@@ -39,7 +41,8 @@ module _ (setting : Setting) (past : Statements) (params : ℕ) (around : List O
   branch_begins (From at entry one two exit) rest h =
       ends_with (StepsBack setting (config_before past (Then (From at entry one two exit) rest) params around st))
       (evaluated setting.program entry st) _
-      (λ v c e. ends_past (StepsBack setting (config_before past (Then (From at entry one two exit) rest) params around st))
+      (λ v c e. ends_past (StepsBack setting (config_before past (Then (From at entry one two exit) rest) params around
+      st))
       LOOP (not (holds v)) _
       (λ no. loop_entered setting past rest params around st at entry one two exit v c e (not-false (holds v) no)))
   branch_begins _ rest h = absurd h
@@ -66,7 +69,8 @@ module _ (setting : Setting) (past : Statements) (params : ℕ) (around : List O
     loop_by at entry one two exit placed v c e false is =
         loop_again setting opened rest params around st at entry one two exit past v c placed e is
 
-    branch_ends : (s : Statement) (part : OpenPart) (block : Statements) → RunsIn s part block → unwound past End ≡ block
+    branch_ends : (s : Statement) (part : OpenPart) (block : Statements) → RunsIn s part block
+        → unwound past End ≡ block
         → IsBranchPart part → Ends (Back s part) (ended setting (end_in s part) (open_at s part) around part)
     branch_ends _ _ _ (side at test taken other after b) placed h =
         ends_with (Back (If at test taken other after) (Chosen b test after)) (evaluated setting.program after st) _
@@ -88,7 +92,8 @@ module _ (setting : Setting) (past : Statements) (params : ℕ) (around : List O
 -- the step, by what is left of the block and what is open
 goes_back : (setting : Setting) (past rest : Statements) (params : ℕ) (around : List Open) (st : State)
     → IsBodyPlaced (unwound past rest) around → Branches rest around
-    → Ends (StepsBack setting (config_before past rest params around st)) (next setting (config_before past rest params around st))
+    → Ends (StepsBack setting (config_before past rest params around st))
+    (next setting (config_before past rest params around st))
 goes_back setting past (Then s rest) params around st p h =
     ends_after (StepsBack setting (config_before past (Then s rest) params around st)) 1
     (begun setting (config_before past (Then s rest) params around st) s rest)

@@ -7,25 +7,35 @@ use Rattle.meaning_points.specs.rpp_words.Words.{is_less}
 use Rattle.meaning_points.specs.rpp_tree.declared.tree.Ident.{Ident}
 use Rattle.meaning_points.specs.rpp_tree.declared.tree.VarType.{VarType}
 use Rattle.meaning_points.specs.rpp_tree.declared.tree.UpdateOp.{UpdateOp}
-use Rattle.meaning_points.specs.rpp_tree.Tree.{Expression, Number, Null, Variable, Element, Binary, nodes, index_nodes, Lvalue, Whole}
-use Rattle.meaning_points.specs.rpp_tree.Tree.{Item, Object as AnObject, Ints, Objects, Statement, Statements, Update, Swap, If, From}
-use Rattle.meaning_points.specs.rpp_tree.Tree.{Construct, Local, New, Delete, Copy, Uncopy, Call, Skip, End, Then, Procedure}
+use Rattle.meaning_points.specs.rpp_tree.Tree.{Expression, Number, Null, Variable, Element, Binary, nodes, index_nodes}
+use Rattle.meaning_points.specs.rpp_tree.Tree.{Lvalue, Whole}
+use Rattle.meaning_points.specs.rpp_tree.Tree.{Item, Object as AnObject, Ints, Objects, Statement, Statements, Update}
+use Rattle.meaning_points.specs.rpp_tree.Tree.{Swap, If, From}
+use Rattle.meaning_points.specs.rpp_tree.Tree.{Construct, Local, New, Delete, Copy, Uncopy, Call, Skip, End, Then}
+use Rattle.meaning_points.specs.rpp_tree.Tree.{Procedure}
 use Rattle.meaning_points.specs.class_rules.Classes.{class_number, class_fields, method_named}
 use Rattle.meaning_points.specs.roopl_semantics.Run.{Run, Done, Fault, More, after_cost, ◌>>=◌, give, spend, fault_if}
-use Rattle.meaning_points.specs.roopl_semantics.Store.{Value, Word, Nil, Head, OfClass, OfInts, OfObjects, Object, object_at}
+use Rattle.meaning_points.specs.roopl_semantics.Store.{Value, Word, Nil, Head, OfClass, OfInts, OfObjects, Object}
+use Rattle.meaning_points.specs.roopl_semantics.Store.{object_at}
 use Rattle.meaning_points.specs.roopl_semantics.Store.{zero_values, State, is_nil, is_zero, number_of, same_value}
-use Rattle.meaning_points.specs.roopl_semantics.Value.{Cell, Slot, NIL, cell_named, own_class, read, written, evaluated, found}
+use Rattle.meaning_points.specs.roopl_semantics.Value.{Cell, Slot, NIL, cell_named, own_class, read, written, evaluated}
+use Rattle.meaning_points.specs.roopl_semantics.Value.{found}
 use Rattle.meaning_points.specs.roopl_semantics.Value.{value as value_in, cell_of}
-use Rattle.meaning_points.specs.roopl_semantics.Elements.{elements, index_elements, own_element, kept_apart, read_cost, share_array}
+use Rattle.meaning_points.specs.roopl_semantics.Elements.{elements, index_elements, own_element, kept_apart, read_cost}
+use Rattle.meaning_points.specs.roopl_semantics.Elements.{share_array}
 use Rattle.meaning_points.specs.roopl_semantics.Elements.{SHARED_ARRAY}
-use Rattle.meaning_points.specs.roopl_semantics.Execution.{Setting, holds, freed, all_zero, is_of_class, same_cell, NOT_NIL}
+use Rattle.meaning_points.specs.roopl_semantics.Execution.{Setting, holds, freed, all_zero, is_of_class, same_cell}
+use Rattle.meaning_points.specs.roopl_semantics.Execution.{NOT_NIL}
 use Rattle.meaning_points.specs.roopl_semantics.Execution.{COUNT, NOT_EMPTY, NOT_SAME, CLASS_DIFFERS}
-use Rattle.meaning_points.specs.roopl_semantics.Execution.{LENGTH_DIFFERS, LENGTH, opened, closed, moved_back, allocated}
-use Rattle.meaning_points.specs.roopl_semantics.Execution.{new_array, delete_array, cells_named, class_of, is_too_deep, constructed}
+use Rattle.meaning_points.specs.roopl_semantics.Execution.{LENGTH_DIFFERS, LENGTH, opened, closed, moved_back}
+use Rattle.meaning_points.specs.roopl_semantics.Execution.{allocated}
+use Rattle.meaning_points.specs.roopl_semantics.Execution.{new_array, delete_array, cells_named, class_of, is_too_deep}
+use Rattle.meaning_points.specs.roopl_semantics.Execution.{constructed}
 use Rattle.meaning_points.specs.roopl_semantics.Execution.{element_name, element_call, FI, LOOP, DELOCAL}
 use Rattle.meaning_points.specs.roopl_semantics.Execution.{TOO_DEEP, TOUCHED, turns, turn_end, with_local, invoked}
 use Rattle.meaning_points.specs.roopl_semantics.Execution.{statement, exec}
-use Rattle.meaning_points.specs.Points.{Point, points_behind, begin_points, called_points, local_points, again_points, turn_points}
+use Rattle.meaning_points.specs.Points.{Point, points_behind, begin_points, called_points, local_points, again_points}
+use Rattle.meaning_points.specs.Points.{turn_points}
 use Rattle.meaning_points.specs.Points.{call_points, inner_points, points}
 use Rattle.meaning_machine.specs.Machine.{Config, Open, Chosen, First, Again, Holding, past_it, turned_first}
 use Rattle.meaning_machine.specs.Machine.{held_local, entered, called, begun, walk}
@@ -54,7 +64,8 @@ sure_moved (cell ∷ cells) (v ∷ values) st =
 
 module _ (setting : Setting) (n : ℕ)
     (block : (past b : Statements) (params : ℕ) (around : List Open) (st : State)
-    → Goes setting n (give (config_before past b params around st)) (config_after past b params around) (exec setting n b st)
+    → Goes setting n (give (config_before past b params around st)) (config_after past b params around)
+    (exec setting n b st)
     (points setting n params b st)) where
   sure_value : (e : Expression) (st : State) → IsSure (evaluated setting.program e st)
   sure_value e st = sure_given (nodes e) (value_in setting.program st e)
@@ -68,7 +79,8 @@ module _ (setting : Setting) (n : ℕ)
   local x s rest name value body end_value =
       over setting n (evaluated setting.program value x.state) _ _ _ _ (sure_value value x.state) (λ v.
       let o : Open = record { past = x.past; here = s; rest = rest; part = Holding name value end_value } in
-      on_silently setting n _ (config_after End body x.params (o ∷ x.around)) _ (exec setting n body (opened name v x.state)) _
+      on_silently setting n _ (config_after End body x.params (o ∷ x.around)) _
+      (exec setting n body (opened name v x.state)) _
       _ (block End body x.params (o ∷ x.around) (opened name v x.state)) (λ end.
       go setting n (config_after End body x.params (o ∷ x.around) end) _ _ []
       (over_silently setting n (evaluated setting.program end_value end) _ _ _ (sure_value end_value end) (λ w.
@@ -122,7 +134,8 @@ module _ (setting : Setting) (n : ℕ)
     two = record { past = x.past; here = s; rest = rest; part = Again entry first again exit }
 
     second : (m : ℕ) → m ≤ n → (more : State → Run State) (list : State → List Point)
-        → ((st : State) → Goes setting m (give (config_before End first x.params (one ∷ x.around) st)) (past_it x s rest)
+        → ((st : State) → Goes setting m (give (config_before End first x.params (one ∷ x.around) st))
+        (past_it x s rest)
         (more st) (list st))
         → (b : Bool) (st : State)
         → Goes setting m (give (turned_first setting (config_after End first x.params (one ∷ x.around) st) one x.around
@@ -312,7 +325,8 @@ module _ (setting : Setting) (n : ℕ)
 -- ---- blocks
 
 block : (setting : Setting) (n : ℕ) (past b : Statements) (params : ℕ) (around : List Open) (st : State)
-    → Goes setting n (give (config_before past b params around st)) (config_after past b params around) (exec setting n b st)
+    → Goes setting n (give (config_before past b params around st)) (config_after past b params around)
+    (exec setting n b st)
     (points setting n params b st)
 block setting n past End params around st = stay setting n (config_after past End params around) st
 block setting zero past (Then first rest) params around st =
@@ -320,15 +334,18 @@ block setting zero past (Then first rest) params around st =
 block setting (suc n) past (Then first rest) params around st =
     let x : Config = config_before past (Then first rest) params around st in
     let ps : List Point = inner_points setting n (exec setting n) (points setting n) params first st in
-    let qs : List Point = points_behind (statement setting n (exec setting n) first st) (points setting n params rest) in
+    let qs : List Point = points_behind (statement setting n (exec setting n) first st) (points setting n params rest)
+    in
     let P : List Point → Type 0 = λ l. Goes setting (suc n) (give x) (config_after past (Then first rest) params around)
     (exec setting (suc n) (Then first rest) st) l in
     subst P (sym (append_assoc (begin_points params first st) ps qs))
-    (go setting (suc n) x (config_after past (Then first rest) params around) (exec setting (suc n) (Then first rest) st)
+    (go setting (suc n) x (config_after past (Then first rest) params around)
+    (exec setting (suc n) (Then first rest) st)
     (ps ++ qs)
     (spent setting (suc n) n 1 (begun setting x first rest) (config_after past (Then first rest) params around)
     (statement setting n (exec setting n) first st >>= exec setting n rest) (ps ++ qs) (omega arith)
-    (on setting n (begun setting x first rest) (past_it x first rest) (config_after past (Then first rest) params around)
+    (on setting n (begun setting x first rest) (past_it x first rest)
+    (config_after past (Then first rest) params around)
     (statement setting n (exec setting n) first st) (exec setting n rest) ps (points setting n params rest)
     (done setting n (block setting n) x first rest)
     (λ end. block setting n (Then first past) rest params around end))))

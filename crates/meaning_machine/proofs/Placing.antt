@@ -2,7 +2,8 @@
 use Rattle.std.proofs.Common.{◌≡◌, ℕ, refl, sym, ap, subst, ◌∙◌, Bool, true, false, not, List, [], ◌∷◌, ◌++◌, length}
 use Rattle.std.proofs.Common.{map, Option, Some, None, if◌then◌else◌}
 use Rattle.meaning_points.specs.rpp_tree.declared.tree.Ident.{Ident}
-use Rattle.meaning_points.specs.rpp_tree.Tree.{Expression, Null, Lvalue, Whole, Item, Object as AnObject, Statement, Statements, If}
+use Rattle.meaning_points.specs.rpp_tree.Tree.{Expression, Null, Lvalue, Whole, Item, Object as AnObject, Statement}
+use Rattle.meaning_points.specs.rpp_tree.Tree.{Statements, If}
 use Rattle.meaning_points.specs.rpp_tree.Tree.{From, Construct, Local, Delete, Call, End, Then, joined, Procedure}
 use Rattle.meaning_points.specs.class_rules.Classes.{method_named}
 use Rattle.meaning_points.specs.inverse_rules.Inverse.{inverse_statement, inverse}
@@ -18,7 +19,8 @@ use Rattle.meaning_machine.specs.Machine.{turned_first, simply, held_local, ente
 use Rattle.meaning_machine.specs.Machine.{closing, stepped, next}
 use Rattle.meaning_machine.specs.MachineLaws.{config_before}
 use Rattle.meaning_machine.specs.Turned.{each_undone, turned_part, turned_open, turn, unwound}
-use Rattle.meaning_machine.specs.Placed.{RunsIn, side, first, again, object, local, element, body, IsBodyPlaced, IsConfigPlaced}
+use Rattle.meaning_machine.specs.Placed.{RunsIn, side, first, again, object, local, element, body, IsBodyPlaced}
+use Rattle.meaning_machine.specs.Placed.{IsConfigPlaced}
 use Rattle.meaning_machine.proofs.Back.{undone_from}
 
 -- ---- what holds for the end of a run, if it has one
@@ -175,7 +177,8 @@ module _ (setting : Setting) where
       ends_then IsConfigPlaced (spend 1) _
       (λ u. begun_placed x s rest (subst (λ r. IsBodyPlaced (unwound x.past r) x.around) e h))
 
-pub step_placed : (setting : Setting) (x y : Config) (cost : ℕ) → IsConfigPlaced x → next setting x ≡ Done y cost → IsConfigPlaced y
+pub step_placed : (setting : Setting) (x y : Config) (cost : ℕ) → IsConfigPlaced x → next setting x ≡ Done y cost
+    → IsConfigPlaced y
 step_placed setting x y cost h e =
     ends_done IsConfigPlaced (next setting x) y cost e (stepped_placed setting x x.rest refl h.stands)
 
@@ -231,5 +234,6 @@ turned_placed x h = record {
       (stands_undone (unwound x.past x.rest) x.around h.stands);
 }
 
-pub start_placed : (block : Statements) (params : ℕ) (st : State) → IsConfigPlaced (config_before End block params [] st)
+pub start_placed : (block : Statements) (params : ℕ) (st : State)
+    → IsConfigPlaced (config_before End block params [] st)
 start_placed block params st = record { stands = tt }

@@ -86,7 +86,8 @@ module _ (setting : Setting) where
   end_stays d More end = absurd end
 
   -- from a run that is over no steps lead on
-  pub ended_by : (m k d : ℕ) (x : Config) → k ≡ plus m d → IsEnd (walk setting m x) → walk setting k x ≡ walk setting m x
+  pub ended_by : (m k d : ℕ) (x : Config) → k ≡ plus m d → IsEnd (walk setting m x)
+      → walk setting k x ≡ walk setting m x
   ended_by m k d x e end =
       ap (λ n. walk setting n x) e ∙ walk_plus setting m d x ∙ end_stays d (walk setting m x) end
 
@@ -137,7 +138,8 @@ module _ (program : Source) (limits : Limits) (input : List FieldWord) (fuel : �
   abbrev pub run : ℕ → Run State
   run n = exec here n (main_body program) first
 
-  pub follows : (n : ℕ) → MachineFollows here n start (end_config program) (run n) (points here n 0 (main_body program) first)
+  pub follows : (n : ℕ) → MachineFollows here n start (end_config program) (run n)
+      (points here n 0 (main_body program) first)
   follows n = followed here n 0 End (main_body program) [] first
 
   pub follows_as : (n : ℕ) (r : Run State) → run n ≡ r

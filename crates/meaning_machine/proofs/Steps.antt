@@ -36,12 +36,14 @@ then_same More f g h = refl
 
 -- ---- lists of trace points after runs
 
-behind_after : {A : Type 0} (c : ℕ) (r : Run A) (f : A → List Point) → points_behind (after_cost c r) f ≡ points_behind r f
+behind_after : {A : Type 0} (c : ℕ) (r : Run A) (f : A → List Point)
+    → points_behind (after_cost c r) f ≡ points_behind r f
 behind_after c (Done x d) f = refl
 behind_after c (Fault code d) f = refl
 behind_after c More f = refl
 
-behind_same : {A : Type 0} (r : Run A) (f g : A → List Point) → ((a : A) → f a ≡ g a) → points_behind r f ≡ points_behind r g
+behind_same : {A : Type 0} (r : Run A) (f g : A → List Point) → ((a : A) → f a ≡ g a)
+    → points_behind r f ≡ points_behind r g
 behind_same (Done x d) f g h = h x
 behind_same (Fault code d) f g h = refl
 behind_same More f g h = refl
@@ -115,7 +117,8 @@ module _ (setting : Setting) where
   behind_seen : (p : Run Config) (a b : ℕ) → points_behind p (seen setting (plus a b))
       ≡ points_behind p (seen setting a) ++ points_behind (p >>= walk setting a) (seen setting b)
   behind_seen p a b =
-      behind_same p (seen setting (plus a b)) (λ y. seen setting a y ++ points_behind (walk setting a y) (seen setting b))
+      behind_same p (seen setting (plus a b)) (λ y. seen setting a y
+      ++ points_behind (walk setting a y) (seen setting b))
       (seen_plus a b)
       ∙ behind_both p (seen setting a) (walk setting a) (seen setting b)
 
@@ -200,7 +203,8 @@ module _ (setting : Setting) where
   -- a value that costs something
   pub over_value : {A B : Type 0} (m n c : ℕ) (v : Result B ℕ) (f : B → Run Config) (y : A → Config) (g : B → Run A)
       (h : B → List Point) → m ≤ n + c → ((b : B) → Goes n (f b) y (g b) (h b))
-      → Goes m (after_cost c (given v) >>= f) y (after_cost c (given v) >>= g) (points_behind (after_cost c (given v)) h)
+      → Goes m (after_cost c (given v) >>= f) y (after_cost c (given v) >>= g)
+      (points_behind (after_cost c (given v)) h)
   over_value m n c (Ok b) f y g h le goes = spent m n (c + 0) (f b) y (g b) (h b) (omega arith) (goes b)
   over_value m n c (Err code) f y g h le goes = record { steps = 0; walks = refl; points = refl }
 
@@ -256,7 +260,8 @@ module _ (setting : Setting) where
 
       listed : (s t : ℕ) → (p >>= walk setting s) ≡ Done (x a) c → points_behind p (seen setting s) ≡ ps
           → points_behind p (seen setting (plus s t)) ≡ ps ++ seen setting t (x a)
-      listed s t e l = behind_seen p s t ∙ ap (λ z. points_behind p (seen setting s) ++ points_behind z (seen setting t)) e
+      listed s t e l = behind_seen p s t ∙ ap (λ z. points_behind p (seen setting s)
+          ++ points_behind z (seen setting t)) e
           ∙ ap (λ z. z ++ seen setting t (x a)) l
 
       onward : (s : Run B) → Goes n (give (x a)) y s (h a) → Goes n p y (after_cost c s) (ps ++ h a)

@@ -39,7 +39,8 @@ module _ (setting : Setting) where
   seen_stays : (d : ℕ) (x : Config) → x.rest ≡ End → x.around ≡ [] → seen setting d x ≡ []
   seen_stays zero x rest around = refl
   seen_stays (suc d) x rest around =
-      ap (λ (body : Statements). point_of setting x.params x.state body ++ points_behind (next setting x) (seen setting d)) rest
+      ap (λ (body : Statements). point_of setting x.params x.state body
+      ++ points_behind (next setting x) (seen setting d)) rest
       ∙ ap (λ (r : Run Config). points_behind r (seen setting d)) (stays_next setting x rest around)
       ∙ seen_stays d x rest around
 

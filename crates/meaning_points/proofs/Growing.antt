@@ -2,7 +2,8 @@
 use Rattle.std.proofs.Common.{◌≡◌, ℕ, zero, suc, ◌≤◌, refl, sym, ap, ◌∙◌, arith, append-nil, append_assoc, Bool}
 use Rattle.std.proofs.Common.{true, false, not, List, [], ◌∷◌, ◌++◌, length, Option, Some, None}
 use Rattle.roopl_semantics.specs.rpp_tree.declared.tree.Ident.{Ident}
-use Rattle.roopl_semantics.specs.rpp_tree.Tree.{Expression, Lvalue, Whole, Item, Object as AnObject, Statement, Statements, If, From}
+use Rattle.roopl_semantics.specs.rpp_tree.Tree.{Expression, Lvalue, Whole, Item, Object as AnObject, Statement}
+use Rattle.roopl_semantics.specs.rpp_tree.Tree.{Statements, If, From}
 use Rattle.roopl_semantics.specs.rpp_tree.Tree.{Construct, Local, New, Delete, Call, End, Then, Procedure, Null}
 use Rattle.roopl_semantics.specs.class_rules.Classes.{method_named}
 use Rattle.roopl_semantics.specs.Run.{Run, Done, Fault, More, after_cost, ◌>>=◌, fault_if}
@@ -11,7 +12,8 @@ use Rattle.roopl_semantics.specs.Value.{Cell, NIL, cell_named, own_class, read, 
 use Rattle.roopl_semantics.specs.Execution.{Setting, Runner, holds, cells_named, class_of, is_too_deep, constructed}
 use Rattle.roopl_semantics.specs.Execution.{element_name, element_call, LOOP, TOO_DEEP, turns, turn_end}
 use Rattle.roopl_semantics.specs.Execution.{with_local, invoked, statement, exec}
-use Rattle.meaning_points.specs.Points.{Point, Lister, points_behind, begin_points, called_points, local_points, again_points}
+use Rattle.meaning_points.specs.Points.{Point, Lister, points_behind, begin_points, called_points, local_points}
+use Rattle.meaning_points.specs.Points.{again_points}
 use Rattle.meaning_points.specs.Points.{turn_points, call_points, inner_points, points}
 use Rattle.meaning_points.specs.PointLaws.{StartsWith}
 
@@ -147,7 +149,8 @@ grows setting (suc n) (suc m) params End st h = same refl refl
 grows setting zero m params (Then first rest) st h = longer refl _ refl
 grows setting (suc n) (suc m) params (Then first rest) st h =
     spent _ _ _ _ 1 (next _ _ _ _ _ _ _ _
-    (front (begin_points params first st) _ _ _ _ (statement_on setting (exec setting n) (exec setting m) (points setting n)
+    (front (begin_points params first st) _ _ _ _ (statement_on setting (exec setting n) (exec setting m)
+    (points setting n)
     (points setting m) (λ ps b s. grows setting n m ps b s (omega arith)) n m params first st (omega arith)))
     (λ end. grows setting n m params rest end (omega arith)))
 

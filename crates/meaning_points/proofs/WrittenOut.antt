@@ -6,7 +6,8 @@ use Rattle.roopl_semantics.specs.rpp_tree.declared.tree.Ident.{Ident}
 use Rattle.roopl_semantics.specs.rpp_tree.declared.tree.Var.{Var}
 use Rattle.roopl_semantics.specs.rpp_tree.declared.tree.VarType.{VarType}
 use Rattle.roopl_semantics.specs.rpp_tree.declared.tree.VarType.TheVariants as kind
-use Rattle.roopl_semantics.specs.rpp_tree.Tree.{Expression, Null, Whole, Item, Object as AnObject, Statement, Statements, Swap}
+use Rattle.roopl_semantics.specs.rpp_tree.Tree.{Expression, Null, Whole, Item, Object as AnObject, Statement}
+use Rattle.roopl_semantics.specs.rpp_tree.Tree.{Statements, Swap}
 use Rattle.roopl_semantics.specs.rpp_tree.Tree.{Construct}
 use Rattle.roopl_semantics.specs.rpp_tree.Tree.{Local, New, Delete, Call, End, Then, joined}
 use Rattle.roopl_semantics.specs.inverse_rules.Inverse.{inverse_statement, inverse}
@@ -67,7 +68,8 @@ module _ {Q : Type 0} (shown : Point → Q) (setting : Setting) where
       shows zero params st = refl
       shows (suc n) params st =
           map-append shown (own n params s st) _
-          ∙ ap (λ l. l ++ map shown (points_behind (statement setting n (exec setting n) s st) (points setting n params b)))
+          ∙ ap (λ l. l ++ map shown (points_behind (statement setting n (exec setting n) s st)
+          (points setting n params b)))
           (x.shows n params st)
           ∙ ap (λ l. map shown (own n params t st) ++ l)
           (behind_same _ _ _ _ (x.does n st) (λ end. y.shows n params end))

@@ -69,7 +69,8 @@ within_back : (names : ℕ → Bool) (vs ws : List Value) → AllWithin names (v
 within_back names [] ws h = h
 within_back names (v ∷ vs) ws h = within_back names vs ws h.1
 
-value_holds : (names : ℕ → Bool) (v : Value) (m : ℕ) → is_value_within names v ≡ true → 0 < one_if_name m v → names m ≡ true
+value_holds : (names : ℕ → Bool) (v : Value) (m : ℕ) → is_value_within names v ≡ true → 0 < one_if_name m v
+    → names m ≡ true
 value_holds names (Word w) m h p = absurd (let z : 0 < 0 = p in omega arith)
 value_holds names Nil m h p = absurd (let z : 0 < 0 = p in omega arith)
 value_holds names (Name n) m h p = ap names (sym (one_is m n p)) ∙ h

@@ -61,7 +61,8 @@ closed_reaches extra end none r = reaches_on extra end (closed end)
     (λ names c. record { extras = c.extras; cells = cells names c }) (λ n l. l) r
   where
     slots : (names : ℕ → Bool) (frame : List Binding) → is_value_within names (value_at frame 0) ≡ true
-        → ((i : ℕ) → is_value_within names (value_at (Rattle.meaning_sound.specs.roopl_semantics.Execution.rest_of frame) i)
+        → ((i : ℕ) → is_value_within names (value_at (Rattle.meaning_sound.specs.roopl_semantics.Execution.rest_of
+        frame) i)
         ≡ true)
         → (i : ℕ) → is_value_within names (value_at frame i) ≡ true
     slots names [] first rest i = refl

@@ -8,7 +8,8 @@ use Rattle.meaning_sound.specs.rpp_tree.Tree.{Source}
 use Rattle.meaning_sound.specs.class_rules.declared.kind.Kind.{Kind}
 use Rattle.meaning_sound.specs.class_rules.Scope.{Locals}
 use Rattle.meaning_sound.specs.buddy_book.Place.{Log, count_taken}
-use Rattle.meaning_sound.specs.roopl_semantics.Store.{Value, Word, Nil, Name, Object, State, is_zero, object_named, object_at}
+use Rattle.meaning_sound.specs.roopl_semantics.Store.{Value, Word, Nil, Name, Object, State, is_zero, object_named}
+use Rattle.meaning_sound.specs.roopl_semantics.Store.{object_at}
 use Rattle.meaning_sound.specs.roopl_semantics.Store.{no_object, without}
 use Rattle.meaning_sound.specs.roopl_semantics.Value.{Cell, Slot, Part, read, written}
 use Rattle.meaning_sound.specs.roopl_semantics.Execution.{Setting, same_cell, all_zero, count_changed, one_less}
@@ -91,7 +92,8 @@ module _ (setting : Setting) (extra : ℕ → ℕ) (shape : Locals) (class : ℕ
           (λ q. within_more (λ n. false) names (read big cell) (λ n z. absurd (clash false z refl)) empty) c in
           record { extras = cb.extras; cells = λ d h. one cb d h }
         where
-          one : IsClosed names extra big → (d : Cell) → is_rooted names d ≡ true → is_value_within names (read st d) ≡ true
+          one : IsClosed names extra big → (d : Cell) → is_rooted names d ≡ true
+              → is_value_within names (read st d) ≡ true
           one cb (Slot i) h = cb.cells (Slot i) h
           one cb (Part n i) h = part (nat_eq name n) refl
             where
@@ -135,7 +137,8 @@ module _ (setting : Setting) (extra : ℕ → ℕ) (shape : Locals) (class : ℕ
     -- a cell outside of what goes
     other : (names : ℕ → Bool) → IsClosed names extra without_it → (d : Cell) → read small d ≡ read st d
         → is_rooted names d ≡ true → (s : Bool) → same_cell cell d ≡ s → is_value_within (more names) (read st d) ≡ true
-    other names c d same h true e = ap (is_value_within (more names)) (sym (ap (read st) (same_cell_is cell d e)) ∙ reads)
+    other names c d same h true e = ap (is_value_within (more names))
+        (sym (ap (read st) (same_cell_is cell d e)) ∙ reads)
         ∙ or_right (names name) (nat_eq name name) (same_number name)
     other names c d same h false e = ap (is_value_within (more names)) (sym (read_other small cell d Nil e ∙ same))
         ∙ wider names (read without_it d) (c.cells d h)
@@ -213,6 +216,7 @@ module _ (setting : Setting) (extra : ℕ → ℕ) (shape : Locals) (class : ℕ
       before names c =
           let ra = visible_rooted program shape names extra st (written st b Nil) ka a va held
           (stays_under setting extra shape class st b Nil ka kb hb arrays) c in
-          let has : is_value_within names (read st a) ≡ true = ap (is_value_within names) (sym (read_other st b a Nil apart))
+          let has : is_value_within names (read st a) ≡ true =
+          ap (is_value_within names) (sym (read_other st b a Nil apart))
           ∙ c.cells a ra in
           closed_before names extra st b Nil (λ q. ap (is_value_within names) same ∙ has) c

@@ -7,11 +7,13 @@ use Rattle.meaning_sound.specs.class_rules.declared.kind.Kind.{Kind}
 use Rattle.meaning_sound.specs.class_rules.declared.kind.Kind.TheVariants as kind
 use Rattle.meaning_sound.specs.class_rules.Table.{table_of}
 use Rattle.meaning_sound.specs.class_rules.Scope.{Typing, Locals, kind_in}
-use Rattle.meaning_sound.specs.class_rules.Expressions.{element_kind, element_kind_of as element_type, index_is_int, variable_type}
+use Rattle.meaning_sound.specs.class_rules.Expressions.{element_kind, element_kind_of as element_type, index_is_int}
+use Rattle.meaning_sound.specs.class_rules.Expressions.{variable_type}
 use Rattle.meaning_sound.specs.class_rules.Expressions.{type_of, place_type, first_token}
 use Rattle.meaning_sound.specs.class_rules.Program.{setting_in}
 use Rattle.meaning_sound.specs.roopl_semantics.Store.{Value, Word, Nil, Name, Store, State, number_of, object_at}
-use Rattle.meaning_sound.specs.roopl_semantics.Value.{Cell, Slot, Part, read, written, cell_named, variable_value, element_cell}
+use Rattle.meaning_sound.specs.roopl_semantics.Value.{Cell, Slot, Part, read, written, cell_named, variable_value}
+use Rattle.meaning_sound.specs.roopl_semantics.Value.{element_cell}
 use Rattle.meaning_sound.specs.roopl_semantics.Value.{element_of, value, cell_of, INDEX}
 use Rattle.meaning_sound.specs.roopl_semantics.Execution.{Setting, same_cell}
 use Rattle.meaning_sound.specs.Sound.{cell_kind, Typed}
@@ -136,12 +138,14 @@ visible_rooted p shape names extra st end k cell (element holder array n i o ha 
 
 -- a set that is closed after a write was so before, if it has what the cell held
 pub closed_before : (names : ℕ → Bool) (extra : ℕ → ℕ) (st : State) (cell : Cell) (v : Value)
-    → (is_rooted names cell ≡ true → is_value_within names (read st cell) ≡ true) → IsClosed names extra (written st cell v)
+    → (is_rooted names cell ≡ true → is_value_within names (read st cell) ≡ true)
+    → IsClosed names extra (written st cell v)
     → IsClosed names extra st
 closed_before names extra st cell v was closed = record
     { extras = closed.extras; cells = λ d r. by d r (same_cell cell d) refl }
   where
-    by : (d : Cell) → is_rooted names d ≡ true → (s : Bool) → same_cell cell d ≡ s → is_value_within names (read st d) ≡ true
+    by : (d : Cell) → is_rooted names d ≡ true → (s : Bool) → same_cell cell d ≡ s
+        → is_value_within names (read st d) ≡ true
     by d r true e =
         let q = same_cell_is cell d e in
         ap (λ c. is_value_within names (read st c)) (sym q) ∙ was (ap (is_rooted names) q ∙ r)

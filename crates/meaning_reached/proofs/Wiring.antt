@@ -10,7 +10,8 @@ use Rattle.meaning_sound.specs.rpp_tree.declared.tree.Ident.{Ident}
 use Rattle.meaning_sound.specs.rpp_tree.declared.tree.Var.{Var}
 use Rattle.meaning_sound.specs.rpp_tree.declared.tree.VarType.{VarType}
 use Rattle.meaning_sound.specs.rpp_tree.declared.tree.UpdateOp.{UpdateOp}
-use Rattle.meaning_sound.specs.rpp_tree.Tree.{Expression, Lvalue, Whole, Object as AnObject, Ints, Objects, Statements, Update, Swap}
+use Rattle.meaning_sound.specs.rpp_tree.Tree.{Expression, Lvalue, Whole, Object as AnObject, Ints, Objects, Statements}
+use Rattle.meaning_sound.specs.rpp_tree.Tree.{Update, Swap}
 use Rattle.meaning_sound.specs.rpp_tree.Tree.{If, From, New, Delete, Copy, Uncopy, Call, Source, nodes, index_nodes}
 use Rattle.meaning_sound.specs.class_rules.declared.kind.Kind.{Kind}
 use Rattle.meaning_sound.specs.class_rules.declared.kind.Kind.TheVariants as kind
@@ -20,23 +21,30 @@ use Rattle.meaning_sound.specs.class_rules.Table.{table_of, dispatch_in}
 use Rattle.meaning_sound.specs.class_rules.Refusal.{type_differs, unknown_name}
 use Rattle.meaning_sound.specs.class_rules.Scope.{Typing, Local, Locals, kind_in}
 use Rattle.meaning_sound.specs.class_rules.Expressions.{is_int, type_of, place_type}
-use Rattle.meaning_sound.specs.class_rules.Statements.{verdict_passed, required, same_kind, update_rules, swap_rules, make_rules, copy_rules}
+use Rattle.meaning_sound.specs.class_rules.Statements.{verdict_passed, required, same_kind, update_rules, swap_rules}
+use Rattle.meaning_sound.specs.class_rules.Statements.{make_rules, copy_rules}
 use Rattle.meaning_sound.specs.class_rules.Statements.{call_rules, check_statements}
 use Rattle.meaning_sound.specs.class_rules.Program.{setting_in}
 use Rattle.meaning_sound.specs.buddy_book.Place.{count_taken, place}
 use Rattle.meaning_sound.specs.roopl_semantics.Operators.{updated}
 use Rattle.meaning_sound.specs.roopl_semantics.Run.{Run, ◌>>=◌, give, spend, fault_if}
-use Rattle.meaning_sound.specs.roopl_semantics.Store.{Value, Word, Nil, Name, Head, OfClass, OfInts, OfObjects, Store, State}
+use Rattle.meaning_sound.specs.roopl_semantics.Store.{Value, Word, Nil, Name, Head, OfClass, OfInts, OfObjects, Store}
+use Rattle.meaning_sound.specs.roopl_semantics.Store.{State}
 use Rattle.meaning_sound.specs.roopl_semantics.Store.{number_of, is_nil, same_value, zero_value, zero_values, object_at}
-use Rattle.meaning_sound.specs.roopl_semantics.Value.{Cell, Slot, read, written, own_class, cell_named, value_at, value as value_in}
+use Rattle.meaning_sound.specs.roopl_semantics.Value.{Cell, Slot, read, written, own_class, cell_named, value_at}
+use Rattle.meaning_sound.specs.roopl_semantics.Value.{value as value_in}
 use Rattle.meaning_sound.specs.roopl_semantics.Value.{cell_of, NIL}
 use Rattle.meaning_sound.specs.roopl_semantics.Execution.{Setting, Runner, holds, LOOP, FI, DELOCAL, NOT_NIL}
 use Rattle.meaning_sound.specs.roopl_semantics.Execution.{COUNT, NOT_EMPTY, HEAP_FULL, CLASS_DIFFERS}
 use Rattle.meaning_sound.specs.roopl_semantics.Execution.{LENGTH_DIFFERS, LENGTH, NOT_SAME, TOO_DEEP}
-use Rattle.meaning_sound.specs.roopl_semantics.Execution.{same_cell, is_of_class, all_zero, allocated, freed, count_changed, one_less}
-use Rattle.meaning_sound.specs.roopl_semantics.Execution.{new_array, delete_array, order_of_cells, opened, closed, with_local}
-use Rattle.meaning_sound.specs.roopl_semantics.Execution.{turn_end, turns, cells_named, class_of, is_too_deep, invoked, statement}
-use Rattle.meaning_sound.specs.roopl_semantics.Elements.{SHARED_ARRAY, elements, index_elements, own_element, share_array}
+use Rattle.meaning_sound.specs.roopl_semantics.Execution.{same_cell, is_of_class, all_zero, allocated, freed}
+use Rattle.meaning_sound.specs.roopl_semantics.Execution.{count_changed, one_less}
+use Rattle.meaning_sound.specs.roopl_semantics.Execution.{new_array, delete_array, order_of_cells, opened, closed}
+use Rattle.meaning_sound.specs.roopl_semantics.Execution.{with_local}
+use Rattle.meaning_sound.specs.roopl_semantics.Execution.{turn_end, turns, cells_named, class_of, is_too_deep, invoked}
+use Rattle.meaning_sound.specs.roopl_semantics.Execution.{statement}
+use Rattle.meaning_sound.specs.roopl_semantics.Elements.{SHARED_ARRAY, elements, index_elements, own_element}
+use Rattle.meaning_sound.specs.roopl_semantics.Elements.{share_array}
 use Rattle.meaning_sound.specs.roopl_semantics.Elements.{read_cost}
 use Rattle.meaning_sound.specs.roopl_semantics.Laws.{one_if_name}
 use Rattle.meaning_sound.specs.class_rules.Inheritance.{kind_of_var}
@@ -48,7 +56,8 @@ use Rattle.meaning_sound.proofs.Cells.{typed_of, read_fits, typed_written, kind_
 use Rattle.meaning_sound.proofs.Classes.{KnowsClasses}
 use Rattle.meaning_sound.proofs.Names.{is_object, cell_named_kind, meant}
 use Rattle.meaning_sound.proofs.Runs.{Ends, ends_after, ends_then, ends_check, ends_checked, ends_given}
-use Rattle.meaning_sound.proofs.class_rules_laws.PassedRules.{handed_on, both_passed, held as was_held, both_true, int_kind, kinds_same}
+use Rattle.meaning_sound.proofs.class_rules_laws.PassedRules.{handed_on, both_passed, held as was_held, both_true}
+use Rattle.meaning_sound.proofs.class_rules_laws.PassedRules.{int_kind, kinds_same}
 use Rattle.meaning_sound.proofs.class_rules_laws.PassedRules.{some_of}
 use Rattle.meaning_sound.proofs.Values.{int_value, cell_found, place_fits}
 use Rattle.meaning_sound.proofs.Writes.{nil_is}
@@ -98,7 +107,8 @@ module _ (setting : Setting) (classes : KnowsClasses setting.program) (run : Run
       (typed_of setting extra shape class st s) h) e
 
   -- a block that is run
-  ran : (body : Statements) (st : State) → check_statements typing locals body ≡ verdict_passed → IsPlain body → IsSound st
+  ran : (body : Statements) (st : State) → check_statements typing locals body ≡ verdict_passed → IsPlain body
+      → IsSound st
       → Good st → Ends (λ end. Keeps setting extra shape class st end × Good end) (run body st)
   ran body st h p s r = ends_both (Keeps setting extra shape class st) Good (run body st)
       (keeps.by extra locals shape class body st inside means h p s)
@@ -126,7 +136,8 @@ module _ (setting : Setting) (classes : KnowsClasses setting.program) (run : Run
       (λ u. give (written st cell word)) (λ q.
       write_reaches setting extra shape class st cell word (λ names c q. ap (is_value_within names) was.is) r)))
 
-  pub swap_reached : (n at : ℕ) (left right : Lvalue) (st : State) → swap_rules typing locals at left right ≡ verdict_passed
+  pub swap_reached : (n at : ℕ) (left right : Lvalue) (st : State)
+      → swap_rules typing locals at left right ≡ verdict_passed
       → IsSound st → Good st → Ends Good (statement setting n run (Swap at left right) st)
   swap_reached n at left right st h s r =
       let t = typed_of setting extra shape class st s in
@@ -156,7 +167,8 @@ module _ (setting : Setting) (classes : KnowsClasses setting.program) (run : Run
   chosen P false taken other h k = k
 
   pub if_reached : (n at : ℕ) (test : Expression) (taken other : Statements) (after : Expression) (st : State)
-      → check_statements typing locals taken ≡ verdict_passed → check_statements typing locals other ≡ verdict_passed → IsPlain taken
+      → check_statements typing locals taken ≡ verdict_passed → check_statements typing locals other ≡ verdict_passed
+      → IsPlain taken
       → IsPlain other
       → IsSound st → Good st → Ends Good (statement setting n run (If at test taken other after) st)
   if_reached n at test taken other after st ht ho pt po s r =
@@ -179,7 +191,8 @@ module _ (setting : Setting) (classes : KnowsClasses setting.program) (run : Run
       (λ v f. ends_check Good LOOP (holds v) (λ x. next end) (λ q. rest end e.0.sound e.1)))
 
   turns_reached : (n : ℕ) (entry : Expression) (first again : Statements) (exit : Expression)
-      → check_statements typing locals first ≡ verdict_passed → check_statements typing locals again ≡ verdict_passed → IsPlain first
+      → check_statements typing locals first ≡ verdict_passed → check_statements typing locals again ≡ verdict_passed
+      → IsPlain first
       → IsPlain again → (st : State) → IsSound st → Good st → Ends Good (turns setting n run entry first again exit st)
   turns_reached zero entry first again exit hf ha pf pa st s r = tt
   turns_reached (suc n) entry first again exit hf ha pf pa st s r =
@@ -190,7 +203,8 @@ module _ (setting : Setting) (classes : KnowsClasses setting.program) (run : Run
       (turns_reached n entry first again exit hf ha pf pa) (holds v) end e.0.sound e.1))
 
   pub from_reached : (n at : ℕ) (entry : Expression) (first again : Statements) (exit : Expression) (st : State)
-      → check_statements typing locals first ≡ verdict_passed → check_statements typing locals again ≡ verdict_passed → IsPlain first
+      → check_statements typing locals first ≡ verdict_passed → check_statements typing locals again ≡ verdict_passed
+      → IsPlain first
       → IsPlain again
       → IsSound st → Good st → Ends Good (statement setting n run (From at entry first again exit) st)
   from_reached n at entry first again exit st hf ha pf pa s r =
@@ -406,7 +420,8 @@ module _ (setting : Setting) (classes : KnowsClasses setting.program) (run : Run
   copy_reached n at of_type source target st r =
       ends_given Good (index_nodes source) (cell_of program st source) _ (λ a e.
       ends_given Good (index_nodes target) (cell_of program st target) _ (λ b f.
-      let end : Unit {0} → Run State = λ x. give (count_changed suc (written st b (read st a)) (number_of (read st a))) in
+      let end : Unit {0} → Run State = λ x. give (count_changed suc (written st b (read st a)) (number_of (read st a)))
+      in
       let changed = own_element target in
       let reads = index_elements source ++ index_elements target in
       let rest : Unit {0} → Run State = λ x. fault_if NOT_NIL (not (is_nil (read st b))) >>= end in

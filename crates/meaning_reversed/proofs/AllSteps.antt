@@ -1,6 +1,7 @@
 -- Each step from the beginning of a typed block in a good state is undone.
 use Rattle.std.proofs.Common.{◌≡◌, ℕ, zero, suc, ◌+◌, ◌≤◌, arith, refl, sym, ap, subst, List, Some, None}
-use Rattle.meaning_machine.specs.rpp_tree.Tree.{Statement, Statements, Update, Swap, If, From, Construct, Local, New, Delete, Copy}
+use Rattle.meaning_machine.specs.rpp_tree.Tree.{Statement, Statements, Update, Swap, If, From, Construct, Local, New}
+use Rattle.meaning_machine.specs.rpp_tree.Tree.{Delete, Copy}
 use Rattle.meaning_machine.specs.rpp_tree.Tree.{Uncopy, Call, Skip, Whole, Item, End, Then}
 use Rattle.meaning_machine.specs.buddy_book.Place.{count_taken}
 use Rattle.meaning_machine.specs.roopl_semantics.Run.{Done}
@@ -39,17 +40,19 @@ module _ (setting : Setting) (G : Ground setting)
       where
         by : (y : Config) → CallOpened setting G past rest params around st s y → Leads setting k (here s) y
         by y o =
-            let begin : config_before End y.rest y.params y.around y.state ≡ y = ap (λ p. record y { past = p }) (sym o.fresh)
+            let begin : config_before End y.rest y.params y.around y.state ≡ y =
+            ap (λ p. record y { past = p }) (sym o.fresh)
             in (
               o.undone,
               subst (AllBack setting k) begin (ih k le o.inner End y.rest y.params y.around y.state o.typed o.good
                   (λ j lj end cost runs.
                   let z = config_before (gone_past y.rest End) End y.params y.around end in
                   step_by_step setting j z (λ i li. record {
-                    by = λ q d f. (let l = o.leaves (gone_past y.rest End) end cost (unwound_gone y.rest End) runs q d f in (
-                      l.undone,
-                      subst (AllBack setting i) (sym l.is) (on i (omega arith) l.end l.cost l.does),
-                    ));
+                    by = λ q d f. (let l = o.leaves (gone_past y.rest End) end cost (unwound_gone y.rest End) runs q d f
+                        in (
+                          l.undone,
+                          subst (AllBack setting i) (sym l.is) (on i (omega arith) l.end l.cost l.does),
+                        ));
                   }))),
             )
 

@@ -130,7 +130,8 @@ module _ (setting : Setting) where
               ends_on (fault_if FI (if holds v then not (holds w) else holds w)) (λ u. give y) _
               (Leads setting i z) (checked_ends FI (if holds v then not (holds w) else holds w)) (λ u agree.
               ends_done y 0 (Leads setting i z) (
-                leads setting z y refl (if_left setting (gone_past b End) past rest params around end at test taken other
+                leads setting z y refl (if_left setting (gone_past b End) past rest params around end at test taken
+                    other
                     last (holds v) w (nodes last) (unwound_gone b End) f agree),
                 on i (omega arith) end (nodes test + (cost + nodes last))
                     (if_does at test taken other last st end v w cost e runs f agree),
@@ -179,14 +180,16 @@ module _ (setting : Setting) where
           turned j i mid c v lj li runs good_mid e more true out =
               let z = config_before (gone_past one End) End params (in_one ∷ around) mid in (
                 leads setting z (left in_one around params mid) refl
-                    (loop_left setting past rest params around mid at entry one two exit (gone_past one End) v (nodes exit)
+                    (loop_left setting past rest params around mid at entry one two exit (gone_past one End) v
+                    (nodes exit)
                     (unwound_gone one End) e out),
                 on i (omega arith) mid (c + nodes exit) (turn_last entry one two exit st mid v c runs e out),
               )
           turned j i mid c v lj li runs good_mid e more false stay =
               let z = config_before (gone_past one End) End params (in_one ∷ around) mid in (
                 leads setting z (config_before End two params (in_two ∷ around) mid) refl
-                    (loop_again setting past rest params around mid at entry one two exit (gone_past one End) v (nodes exit)
+                    (loop_again setting past rest params around mid at entry one two exit (gone_past one End) v
+                    (nodes exit)
                     (unwound_gone one End) e stay),
                 ih i (omega arith) C End two params (in_two ∷ around) mid (G.turns C at entry one two exit typed).1
                     good_mid (λ p lp next d again.

@@ -58,7 +58,8 @@ module _ (setting : Setting) where
           more parts.middle parts.after ((all g).by parts.middle parts.before parts.first).1 parts.second going
 
   -- nothing has to be shown after the end
-  at_the_end : (n : ℕ) (past : Statements) (params : ℕ) (st : State) → AllBack setting n (config_before past End params [] st)
+  at_the_end : (n : ℕ) (past : Statements) (params : ℕ) (st : State)
+      → AllBack setting n (config_before past End params [] st)
   at_the_end zero past params st = tt
   at_the_end (suc n) past params st = λ going. cc
 

@@ -2,13 +2,15 @@
 use Rattle.std.proofs.Common.{◌≡◌, ◌∙◌, sym, ap, subst, ℕ, zero, suc, ◌<◌, Bool, true, false, length, Some}
 use Rattle.std.specs.Prelude.{not, ◌&&◌, ◌++◌, if◌then◌else◌}
 use Rattle.roopl_semantics.specs.rpp_tree.declared.tree.UpdateOp.{UpdateOp}
-use Rattle.roopl_semantics.specs.rpp_tree.Tree.{Expression, Lvalue, Statements, Update, Swap, If, From, Source, nodes, index_nodes}
+use Rattle.roopl_semantics.specs.rpp_tree.Tree.{Expression, Lvalue, Statements, Update, Swap, If, From, Source, nodes}
+use Rattle.roopl_semantics.specs.rpp_tree.Tree.{index_nodes}
 use Rattle.roopl_semantics.specs.class_rules.declared.kind.Kind.TheVariants as kind
 use Rattle.roopl_semantics.specs.class_rules.Table.{table_of}
 use Rattle.roopl_semantics.specs.class_rules.Refusal.{type_differs}
 use Rattle.roopl_semantics.specs.class_rules.Scope.{Typing, Locals}
 use Rattle.roopl_semantics.specs.class_rules.Expressions.{is_int, type_of, place_type}
-use Rattle.roopl_semantics.specs.class_rules.Statements.{verdict_passed, required, same_kind, update_rules, swap_rules, check_statements}
+use Rattle.roopl_semantics.specs.class_rules.Statements.{verdict_passed, required, same_kind, update_rules, swap_rules}
+use Rattle.roopl_semantics.specs.class_rules.Statements.{check_statements}
 use Rattle.roopl_semantics.specs.class_rules.Program.{setting_in}
 use Rattle.roopl_semantics.specs.Operators.{updated}
 use Rattle.roopl_semantics.specs.Run.{Run, give}
@@ -24,7 +26,8 @@ use Rattle.meaning_sound.proofs.Cells.{typed_of, read_fits}
 use Rattle.meaning_sound.proofs.Classes.{KnowsClasses}
 use Rattle.meaning_sound.specs.Kept.{MeansSame}
 use Rattle.meaning_sound.proofs.Runs.{Ends, ends_then, ends_check, ends_checked, ends_given}
-use Rattle.roopl_semantics.proofs.class_rules_laws.PassedRules.{handed_on, both_passed, held, both_true, int_kind, kinds_same}
+use Rattle.roopl_semantics.proofs.class_rules_laws.PassedRules.{handed_on, both_passed, held, both_true, int_kind}
+use Rattle.roopl_semantics.proofs.class_rules_laws.PassedRules.{kinds_same}
 use Rattle.meaning_sound.proofs.Values.{int_value, int_number, updated_word, word_fits, value_found, cell_found}
 use Rattle.meaning_sound.proofs.Values.{value_fits, place_fits}
 use Rattle.meaning_sound.proofs.Writes.{stays_itself, stays_through, write_keeps, swap_keeps}
@@ -59,7 +62,8 @@ module _ (setting : Setting) (classes : KnowsClasses setting.program) (run : Run
   Kept st end = Keeps setting extra shape class st end
 
   pub update_keeps : (n at : ℕ) (op : UpdateOp) (target : Lvalue) (value : Expression) (st : State)
-      → update_rules typing locals at target value ≡ verdict_passed → HasWords value → Sound setting extra shape class st
+      → update_rules typing locals at target value ≡ verdict_passed → HasWords value
+      → Sound setting extra shape class st
       → Ends (Kept st) (statement setting n run (Update at op target value) st)
   update_keeps n at op target value st h words s =
       let t = typed_of setting extra shape class st s in
@@ -88,7 +92,8 @@ module _ (setting : Setting) (classes : KnowsClasses setting.program) (run : Run
       (int_number program st.store (read st cell) old) (int_number program st.store x fit)))
       (λ m. sym (ap (one_if_name m) was.is)))))
 
-  pub swap_keeps_all : (n at : ℕ) (left right : Lvalue) (st : State) → swap_rules typing locals at left right ≡ verdict_passed
+  pub swap_keeps_all : (n at : ℕ) (left right : Lvalue) (st : State)
+      → swap_rules typing locals at left right ≡ verdict_passed
       → Sound setting extra shape class st → Ends (Kept st) (statement setting n run (Swap at left right) st)
   swap_keeps_all n at left right st h s =
       let t = typed_of setting extra shape class st s in
@@ -112,7 +117,8 @@ module _ (setting : Setting) (classes : KnowsClasses setting.program) (run : Run
       ∙ ap (λ z. Some z) (sym same)))))
 
   chosen_checks : (b : Bool) (taken other : Statements) → check_statements typing locals taken ≡ verdict_passed
-      → check_statements typing locals other ≡ verdict_passed → check_statements typing locals (if b then taken else other)
+      → check_statements typing locals other ≡ verdict_passed
+      → check_statements typing locals (if b then taken else other)
       ≡ verdict_passed
   chosen_checks true taken other h k = h
   chosen_checks false taken other h k = k
@@ -123,7 +129,8 @@ module _ (setting : Setting) (classes : KnowsClasses setting.program) (run : Run
   chosen_plain false taken other h k = k
 
   pub if_keeps : (n at : ℕ) (test : Expression) (taken other : Statements) (after : Expression) (st : State)
-      → check_statements typing locals taken ≡ verdict_passed → check_statements typing locals other ≡ verdict_passed → IsPlain taken
+      → check_statements typing locals taken ≡ verdict_passed → check_statements typing locals other ≡ verdict_passed
+      → IsPlain taken
       → IsPlain other
       → Sound setting extra shape class st → Ends (Kept st) (statement setting n run (If at test taken other after) st)
   if_keeps n at test taken other after st ht ho pt po s =
@@ -148,7 +155,8 @@ module _ (setting : Setting) (classes : KnowsClasses setting.program) (run : Run
       (λ q. rest end (keeps_through setting extra shape class start st end k e))))
 
   turns_keep : (n : ℕ) (entry : Expression) (first again : Statements) (exit : Expression) (start : State)
-      → check_statements typing locals first ≡ verdict_passed → check_statements typing locals again ≡ verdict_passed → IsPlain first
+      → check_statements typing locals first ≡ verdict_passed → check_statements typing locals again ≡ verdict_passed
+      → IsPlain first
       → IsPlain again → (st : State) → Kept start st → Ends (Kept start) (turns setting n run entry first again exit st)
   turns_keep zero entry first again exit start hf ha pf pa st k = tt
   turns_keep (suc n) entry first again exit start hf ha pf pa st k =
@@ -160,7 +168,8 @@ module _ (setting : Setting) (classes : KnowsClasses setting.program) (run : Run
       (keeps_through setting extra shape class start st end k e)))
 
   pub from_keeps : (n at : ℕ) (entry : Expression) (first again : Statements) (exit : Expression) (st : State)
-      → check_statements typing locals first ≡ verdict_passed → check_statements typing locals again ≡ verdict_passed → IsPlain first
+      → check_statements typing locals first ≡ verdict_passed → check_statements typing locals again ≡ verdict_passed
+      → IsPlain first
       → IsPlain again
       → Sound setting extra shape class st → Ends (Kept st)
       (statement setting n run (From at entry first again exit) st)

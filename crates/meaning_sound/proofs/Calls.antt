@@ -18,12 +18,16 @@ use Rattle.roopl_semantics.specs.class_rules.Members.{field_name}
 use Rattle.roopl_semantics.specs.class_rules.Overrides.{parameters_of}
 use Rattle.roopl_semantics.specs.class_rules.Classes.{class_fields, method_named}
 use Rattle.roopl_semantics.specs.class_rules.Table.{table_of, slot_in, dispatch_in}
-use Rattle.roopl_semantics.specs.class_rules.Refusal.{unknown_name, type_differs, same_argument, wrong_arity, self_update}
+use Rattle.roopl_semantics.specs.class_rules.Refusal.{unknown_name, type_differs, same_argument, wrong_arity}
+use Rattle.roopl_semantics.specs.class_rules.Refusal.{self_update}
 use Rattle.roopl_semantics.specs.class_rules.Scope.{Typing, Locals, kind_of, kind_in}
 use Rattle.roopl_semantics.specs.class_rules.Expressions.{place_type}
-use Rattle.roopl_semantics.specs.class_rules.Statements.{verdict_passed, required, each_passes, each_passes_after, occurs_in_own_index}
-use Rattle.roopl_semantics.specs.class_rules.Statements.{argument_known, argument_new, argument_fits, arguments_fit, receiver_kind}
-use Rattle.roopl_semantics.specs.class_rules.Statements.{place_class, receiver_class, plain_receiver, slot_rules, call_rules}
+use Rattle.roopl_semantics.specs.class_rules.Statements.{verdict_passed, required, each_passes, each_passes_after}
+use Rattle.roopl_semantics.specs.class_rules.Statements.{occurs_in_own_index}
+use Rattle.roopl_semantics.specs.class_rules.Statements.{argument_known, argument_new, argument_fits, arguments_fit}
+use Rattle.roopl_semantics.specs.class_rules.Statements.{receiver_kind}
+use Rattle.roopl_semantics.specs.class_rules.Statements.{place_class, receiver_class, plain_receiver, slot_rules}
+use Rattle.roopl_semantics.specs.class_rules.Statements.{call_rules}
 use Rattle.roopl_semantics.specs.rpp_tree.Places.{place_name}
 use Rattle.roopl_semantics.specs.class_rules.Program.{setting_in}
 use Rattle.roopl_semantics.specs.Run.{Run, ◌>>=◌, give}
@@ -41,7 +45,8 @@ use Rattle.meaning_sound.specs.Kept.{MeansSame}
 use Rattle.meaning_sound.proofs.Names.{is_object, cell_named_kind, IsMeant, variable, field, meant}
 use Rattle.roopl_semantics.proofs.class_rules_laws.FirstPlaces.{same_name, equal_name}
 use Rattle.meaning_sound.proofs.Runs.{Ends, ends_after, ends_check}
-use Rattle.roopl_semantics.proofs.class_rules_laws.PassedRules.{both_passed, held as was_held, handed_on, kinds_same, some_of}
+use Rattle.roopl_semantics.proofs.class_rules_laws.PassedRules.{both_passed, held as was_held, handed_on, kinds_same}
+use Rattle.roopl_semantics.proofs.class_rules_laws.PassedRules.{some_of}
 use Rattle.meaning_sound.proofs.Blocks.{KeepsAll}
 use Rattle.meaning_sound.proofs.Objects.{clash}
 use Rattle.meaning_sound.proofs.Removal.{reference, one_name}
@@ -211,10 +216,12 @@ module _ (setting : Setting) (classes : KnowsClasses setting.program) (run : Run
     pub known : each_passes (argument_known typing locals own at) args ≡ verdict_passed
     pub new : each_passes_after argument_new before args ≡ verdict_passed
     pub as_many : length args ≡ length (parameters_of program (dispatch_in typing.table static slot))
-    pub fit : arguments_fit typing locals (parameters_of program (dispatch_in typing.table static slot)) args ≡ verdict_passed
+    pub fit : arguments_fit typing locals (parameters_of program (dispatch_in typing.table static slot)) args
+        ≡ verdict_passed
 
   pub call_parts : (at : ℕ) (receiver : Option Lvalue) (method : Ident) (args : List Ident) (static : ℕ)
-      → slot_rules typing locals at receiver method args static (slot_in typing.table static method.text) ≡ verdict_passed
+      → slot_rules typing locals at receiver method args static (slot_in typing.table static method.text)
+      ≡ verdict_passed
       → CallParts (is_none receiver) at (plain_receiver receiver) method args static
   call_parts at receiver method args static h = by (slot_in typing.table static method.text) refl h
     where
@@ -302,7 +309,8 @@ module _ (setting : Setting) (classes : KnowsClasses setting.program) (run : Run
       by x y false e q = (e, cc)
 
   pub call_object_keeps : (n at : ℕ) (back : Bool) (name method : Ident) (args : List Ident) (st : State)
-      → call_rules typing locals at (Some (Whole name)) method args ≡ verdict_passed → Sound setting extra shape class st
+      → call_rules typing locals at (Some (Whole name)) method args ≡ verdict_passed
+      → Sound setting extra shape class st
       → Ends (Kept st) (statement setting n run (Call at back (Some (Whole name)) method args) st)
   call_object_keeps n at back name method args st h s =
       let t = typed_of setting extra shape class st s in

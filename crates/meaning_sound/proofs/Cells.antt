@@ -120,7 +120,8 @@ with_value_values [] i v = refl
 with_value_values (b ∷ frame) zero v = refl
 with_value_values (b ∷ frame) (suc i) v = ap (λ z. b.value ∷ z) (with_value_values frame i v)
 
-pub value_at_is : (frame : List Binding) (i : ℕ) → value_at frame i ≡ unwrap_or (slice_get (map bound_value frame) i) Nil
+pub value_at_is : (frame : List Binding) (i : ℕ) → value_at frame i
+    ≡ unwrap_or (slice_get (map bound_value frame) i) Nil
 value_at_is [] i = refl
 value_at_is (b ∷ frame) zero = refl
 value_at_is (b ∷ frame) (suc i) = value_at_is frame i
@@ -157,12 +158,15 @@ module _ (setting : Setting) (extra : ℕ → ℕ) (shape : Locals) (class : ℕ
   counts_written st (Part n i) v m = changed_told st.store n (with_cell i v) count_of (λ o. refl) m
 
   pub read_fits : (st : State) (cell : Cell) (k : Kind) → Typed setting extra shape class st
-      → cell_kind setting.program shape st.store cell ≡ Some k → is_of_kind setting.program st.store (read st cell) k ≡ true
-  read_fits st (Slot i) k t h = subst (λ v. is_of_kind setting.program st.store v k ≡ true) (sym (value_at_is st.frame i))
+      → cell_kind setting.program shape st.store cell ≡ Some k
+      → is_of_kind setting.program st.store (read st cell) k ≡ true
+  read_fits st (Slot i) k t h = subst (λ v. is_of_kind setting.program st.store v k ≡ true)
+      (sym (value_at_is st.frame i))
       (all_get setting.program st.store (map local_type shape) (map bound_value st.frame) i k t.variables h)
   read_fits st (Part n i) k t h =
       let p = part_of setting.program st.store n i k h in
-      subst (λ (o : Object). is_of_kind setting.program st.store (unwrap_or (slice_get o.cells i) Nil) k ≡ true) (sym p.at)
+      subst (λ (o : Object). is_of_kind setting.program st.store (unwrap_or (slice_get o.cells i) Nil) k ≡ true)
+      (sym p.at)
       (all_get setting.program st.store (cell_kinds setting.program p.object.head) p.object.cells i k
       (t.objects n p.object p.named) p.kind_is)
 
@@ -212,7 +216,8 @@ module _ (setting : Setting) (extra : ℕ → ℕ) (shape : Locals) (class : ℕ
       → cell_kind setting.program shape st.store cell ≡ Some k
       → held m (written st cell v) + one_if_name m (read st cell) ≡ held m st + one_if_name m v
   held_written st (Slot i) k v m t h =
-      let inside = all_inside setting.program st.store (map local_type shape) (map bound_value st.frame) i k t.variables h
+      let inside = all_inside setting.program st.store (map local_type shape) (map bound_value st.frame) i k t.variables
+      h
       in
       let a = holders_set m (map bound_value st.frame) i v inside in
       let b = ap (holders_among m) (with_value_values st.frame i v) in

@@ -7,19 +7,26 @@ use Rattle.std.specs.Str.{bytes_eq}
 use Rattle.std.specs.List.{list_any}
 use Rattle.roopl_semantics.specs.rpp_tree.declared.tree.Ident.{Ident}
 use Rattle.roopl_semantics.specs.rpp_tree.declared.tree.Var.{Var}
-use Rattle.roopl_semantics.specs.rpp_tree.Tree.{Expression, Number, Null, Variable, Element, Binary, Whole, Item, Object as AnObject}
-use Rattle.roopl_semantics.specs.rpp_tree.Tree.{Statements, Swap, Construct, New, Delete, Call, End, Then, joined, Source}
+use Rattle.roopl_semantics.specs.rpp_tree.Tree.{Expression, Number, Null, Variable, Element, Binary, Whole, Item}
+use Rattle.roopl_semantics.specs.rpp_tree.Tree.{Object as AnObject}
+use Rattle.roopl_semantics.specs.rpp_tree.Tree.{Statements, Swap, Construct, New, Delete, Call, End, Then, joined}
+use Rattle.roopl_semantics.specs.rpp_tree.Tree.{Source}
 use Rattle.roopl_semantics.specs.class_rules.declared.kind.Kind.{Kind}
 use Rattle.roopl_semantics.specs.class_rules.declared.kind.Kind.TheVariants as kind
 use Rattle.roopl_semantics.specs.class_rules.Overrides.{parameters_of}
 use Rattle.roopl_semantics.specs.class_rules.Table.{Table, table_of, class_of, slot_in, dispatch_in, inherits_in}
-use Rattle.roopl_semantics.specs.class_rules.Refusal.{unknown_name, type_differs, self_update, same_argument, wrong_arity}
+use Rattle.roopl_semantics.specs.class_rules.Refusal.{unknown_name, type_differs, self_update, same_argument}
+use Rattle.roopl_semantics.specs.class_rules.Refusal.{wrong_arity}
 use Rattle.roopl_semantics.specs.class_rules.Scope.{Typing, Local, Locals, local_kind, kind_of, field_kind, class_kind}
 use Rattle.roopl_semantics.specs.class_rules.Expressions.{then_checked, occurs, type_of, place_type}
-use Rattle.roopl_semantics.specs.class_rules.Statements.{Verdict, receiver_kind, place_class, verdict_passed, required, in_turn, each_passes}
-use Rattle.roopl_semantics.specs.class_rules.Statements.{each_passes_after, same_kind, in_either_index, swap_rules, class_known}
-use Rattle.roopl_semantics.specs.class_rules.Statements.{takes_object_of, make_rules, construct_rules, argument_known, argument_new}
-use Rattle.roopl_semantics.specs.class_rules.Statements.{argument_fits, arguments_fit, slot_rules, call_rules, receiver_class}
+use Rattle.roopl_semantics.specs.class_rules.Statements.{Verdict, receiver_kind, place_class, verdict_passed, required}
+use Rattle.roopl_semantics.specs.class_rules.Statements.{in_turn, each_passes}
+use Rattle.roopl_semantics.specs.class_rules.Statements.{each_passes_after, same_kind, in_either_index, swap_rules}
+use Rattle.roopl_semantics.specs.class_rules.Statements.{class_known}
+use Rattle.roopl_semantics.specs.class_rules.Statements.{takes_object_of, make_rules, construct_rules, argument_known}
+use Rattle.roopl_semantics.specs.class_rules.Statements.{argument_new}
+use Rattle.roopl_semantics.specs.class_rules.Statements.{argument_fits, arguments_fit, slot_rules, call_rules}
+use Rattle.roopl_semantics.specs.class_rules.Statements.{receiver_class}
 use Rattle.roopl_semantics.specs.class_rules.Statements.{with_object, check_statement, check_statements}
 use Rattle.roopl_semantics.specs.class_rules.Program.{setting_in}
 use Rattle.roopl_semantics.specs.Store.{State}
@@ -30,7 +37,8 @@ use Rattle.meaning_sound.proofs.Classes.{KnowsClasses}
 use Rattle.meaning_sound.specs.Kept.{MeansSame}
 use Rattle.roopl_semantics.proofs.class_rules_laws.FirstPlaces.{bytes_turned, equal_name}
 use Rattle.meaning_sound.proofs.Runs.{Ends}
-use Rattle.roopl_semantics.proofs.class_rules_laws.PassedRules.{both_passed, in_turn_passes, held as was_held, required_passes, hands_on}
+use Rattle.roopl_semantics.proofs.class_rules_laws.PassedRules.{both_passed, in_turn_passes, held as was_held}
+use Rattle.roopl_semantics.proofs.class_rules_laws.PassedRules.{required_passes, hands_on}
 use Rattle.roopl_semantics.proofs.class_rules_laws.PassedRules.{same_as_itself}
 use Rattle.meaning_sound.proofs.Blocks.{KeepsAll}
 use Rattle.meaning_sound.proofs.Locals.{kind_in_under, type_of_under, nil_end, no_int_class, with_local_keeps}
@@ -125,7 +133,8 @@ module _ (setting : Setting) (classes : KnowsClasses setting.program) (run : Run
         (known_under args n.1 both.1)
 
     pub fit_under : (params : List Var) (args : List Ident) → AreNamed args
-        → arguments_fit typing locals params args ≡ verdict_passed → arguments_fit typing (l ∷ locals) params args ≡ verdict_passed
+        → arguments_fit typing locals params args ≡ verdict_passed
+        → arguments_fit typing (l ∷ locals) params args ≡ verdict_passed
     fit_under [] args n h = refl
     fit_under (p ∷ params) [] n h = refl
     fit_under (p ∷ params) (a ∷ args) n h =
@@ -136,7 +145,8 @@ module _ (setting : Setting) (classes : KnowsClasses setting.program) (run : Run
         ∙ both.0)
         (fit_under params args n.1 both.1)
 
-    pub new_after : (before args : List Ident) → AreNamed args → each_passes_after argument_new before args ≡ verdict_passed
+    pub new_after : (before args : List Ident) → AreNamed args
+        → each_passes_after argument_new before args ≡ verdict_passed
         → each_passes_after argument_new (element_name at ∷ before) args ≡ verdict_passed
     new_after before [] n h = refl
     new_after before (a ∷ args) n h =
@@ -166,7 +176,8 @@ module _ (setting : Setting) (classes : KnowsClasses setting.program) (run : Run
       (fit_under at k params args n c.1)))
 
   pub call_element_keeps : (n at : ℕ) (back : Bool) (name : Ident) (index : Expression) (method : Ident)
-      (args : List Ident) (st : State) → call_rules typing locals at (Some (Item name index)) method args ≡ verdict_passed
+      (args : List Ident) (st : State) → call_rules typing locals at (Some (Item name index)) method args
+      ≡ verdict_passed
       → HasWords index → IsNamed name → HasNames index → AreNamed args
       → Sound setting extra shape class st → Ends (Kept st)
       (statement setting n run (Call at back (Some (Item name index)) method args) st)
@@ -197,7 +208,8 @@ module _ (setting : Setting) (classes : KnowsClasses setting.program) (run : Run
       hands_on (receiver_class typing inner (Some (Whole e)))
       (λ c. slot_rules typing inner at (Some (Whole e)) method args c (slot_in typing.table c method.text)) r.static
       verdict_passed
-      (hands_on (place_type typing inner (Whole e)) (λ x. then_checked (receiver_kind at x) (place_class at (Whole e))) k
+      (hands_on (place_type typing inner (Whole e)) (λ x. then_checked (receiver_kind at x) (place_class at (Whole e)))
+      k
       (Ok r.static) receiver refl)
       (slots_under at k name index method args r.static all (slot_in typing.table r.static method.text) r.rules) in
       with_local_keeps setting classes run keeps extra locals shape class inside means [] k (Null at)

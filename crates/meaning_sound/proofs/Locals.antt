@@ -8,7 +8,8 @@ use Rattle.std.specs.Str.{bytes_eq}
 use Rattle.roopl_semantics.specs.rpp_tree.declared.tree.Var.{Var}
 use Rattle.roopl_semantics.specs.rpp_tree.declared.tree.VarType.{VarType}
 use Rattle.roopl_semantics.specs.rpp_tree.declared.tree.VarType.TheVariants as type
-use Rattle.roopl_semantics.specs.rpp_tree.Tree.{Expression, Number, Null, Variable, Element, Binary, Statements, Source, nodes}
+use Rattle.roopl_semantics.specs.rpp_tree.Tree.{Expression, Number, Null, Variable, Element, Binary, Statements, Source}
+use Rattle.roopl_semantics.specs.rpp_tree.Tree.{nodes}
 use Rattle.roopl_semantics.specs.class_rules.declared.kind.Kind.{Kind}
 use Rattle.roopl_semantics.specs.class_rules.declared.kind.Kind.TheVariants as kind
 use Rattle.roopl_semantics.specs.class_rules.Overrides.{is_type_int}
@@ -16,23 +17,27 @@ use Rattle.roopl_semantics.specs.class_rules.Table.{Table, table_of, class_of}
 use Rattle.roopl_semantics.specs.class_rules.Refusal.{unknown_name, type_differs, redeclared, local_in_own_expression}
 use Rattle.roopl_semantics.specs.class_rules.Scope.{Typing, Local, Locals, local_kind, kind_in, field_kind, kind_of}
 use Rattle.roopl_semantics.specs.class_rules.Scope.{class_kind, array_kind}
-use Rattle.roopl_semantics.specs.class_rules.Expressions.{then_checked, is_int, occurs, type_of, variable_type, element_kind_of, index_is_int}
+use Rattle.roopl_semantics.specs.class_rules.Expressions.{then_checked, is_int, occurs, type_of, variable_type}
+use Rattle.roopl_semantics.specs.class_rules.Expressions.{element_kind_of, index_is_int}
 use Rattle.roopl_semantics.specs.class_rules.Expressions.{operator_type, first_token}
-use Rattle.roopl_semantics.specs.class_rules.Statements.{verdict_passed, required, type_known, is_nil_word, local_rules, check_statements}
+use Rattle.roopl_semantics.specs.class_rules.Statements.{verdict_passed, required, type_known, is_nil_word, local_rules}
+use Rattle.roopl_semantics.specs.class_rules.Statements.{check_statements}
 use Rattle.roopl_semantics.specs.class_rules.Program.{setting_in}
 use Rattle.roopl_semantics.specs.Run.{give}
 use Rattle.roopl_semantics.specs.Store.{Value, Word, Nil, Name, Store, Binding, State, main_name, same_value}
 use Rattle.roopl_semantics.specs.Value.{Slot, value_at, read, value as value_in}
 use Rattle.roopl_semantics.specs.Execution.{Setting, Runner, opened, closed, rest_of, DELOCAL, with_local}
 use Rattle.roopl_semantics.specs.Laws.{one_if_name, holders_among}
-use Rattle.meaning_sound.specs.Sound.{is_of_kind, AllFit, bound_value, binding_name, local_name, local_type, Sound, Keeps, Typed}
+use Rattle.meaning_sound.specs.Sound.{is_of_kind, AllFit, bound_value, binding_name, local_name, local_type, Sound}
+use Rattle.meaning_sound.specs.Sound.{Keeps, Typed}
 use Rattle.meaning_sound.specs.Plain.{HasWords, IsPlain}
 use Rattle.meaning_sound.proofs.Cells.{typed_of}
 use Rattle.meaning_sound.proofs.Classes.{KnowsClasses}
 use Rattle.meaning_sound.specs.Kept.{MeansSame}
 use Rattle.roopl_semantics.proofs.class_rules_laws.FirstPlaces.{bytes_turned}
 use Rattle.meaning_sound.proofs.Runs.{Ends, ends_then, ends_check, ends_given}
-use Rattle.roopl_semantics.proofs.class_rules_laws.PassedRules.{handed_on, both_passed, held as was_held, both_true, neither_true, int_kind}
+use Rattle.roopl_semantics.proofs.class_rules_laws.PassedRules.{handed_on, both_passed, held as was_held, both_true}
+use Rattle.roopl_semantics.proofs.class_rules_laws.PassedRules.{neither_true, int_kind}
 use Rattle.meaning_sound.proofs.Values.{int_value, value_found, value_fits}
 use Rattle.meaning_sound.proofs.Blocks.{KeepsAll}
 
@@ -103,7 +108,8 @@ passes_not false h = absurd (cc)
 -- ---- a variable that appears and goes
 
 pub opened_sound : (setting : Setting) (extra : ℕ → ℕ) (shape : Locals) (class : ℕ) (st : State) (name : List ℕ)
-    (k : Kind) (v : Value) → Sound setting extra shape class st → is_of_kind setting.program st.store v k ≡ true → HoldsNone v
+    (k : Kind) (v : Value) → Sound setting extra shape class st → is_of_kind setting.program st.store v k ≡ true
+    → HoldsNone v
     → Sound setting extra (record { name = name; kind = k } ∷ shape) class (opened name v st)
 opened_sound setting extra shape class st name k v s f none = record {
   names = ap (λ z. name ∷ z) s.names;
@@ -257,7 +263,8 @@ pub record LocalParts (typing : Typing) (locals : Locals) (var : Var) (value : E
   pub last : IsLocalEnd typing locals var.name.text (kind_of typing.table var.kind) end_value
 
 pub local_parts : (typing : Typing) (locals : Locals) (at : ℕ) (var : Var) (value : Expression) (end_var : Var)
-    (end_value : Expression) → local_rules typing locals at var value end_var end_value ≡ verdict_passed → HasWords value
+    (end_value : Expression) → local_rules typing locals at var value end_var end_value ≡ verdict_passed
+    → HasWords value
     → HasWords end_value → LocalParts typing locals var value end_var end_value
 local_parts typing locals at var value end_var end_value h wv we =
     let a = both_passed (type_known typing.table var.kind) _ h in

@@ -12,7 +12,8 @@ use Rattle.roopl_semantics.specs.rpp_tree.declared.tree.Ident.{Ident}
 use Rattle.roopl_semantics.specs.rpp_tree.declared.tree.Var.{Var}
 use Rattle.roopl_semantics.specs.rpp_tree.declared.tree.VarType.{VarType}
 use Rattle.roopl_semantics.specs.rpp_tree.declared.tree.VarType.TheVariants as type
-use Rattle.roopl_semantics.specs.rpp_tree.Tree.{Expression, Lvalue, Creation, Object as AnObject, Ints, Objects, New, Delete, Copy}
+use Rattle.roopl_semantics.specs.rpp_tree.Tree.{Expression, Lvalue, Creation, Object as AnObject, Ints, Objects, New}
+use Rattle.roopl_semantics.specs.rpp_tree.Tree.{Delete, Copy}
 use Rattle.roopl_semantics.specs.rpp_tree.Tree.{Uncopy, Source, nodes, index_nodes}
 use Rattle.roopl_semantics.specs.class_rules.declared.kind.Kind.{Kind}
 use Rattle.roopl_semantics.specs.class_rules.declared.kind.Kind.TheVariants as kind
@@ -22,8 +23,10 @@ use Rattle.roopl_semantics.specs.class_rules.Table.{Table, table_of, class_of, i
 use Rattle.roopl_semantics.specs.class_rules.Refusal.{type_differs}
 use Rattle.roopl_semantics.specs.class_rules.Scope.{Typing, Locals, kind_of, class_kind, array_kind}
 use Rattle.roopl_semantics.specs.class_rules.Expressions.{is_int, element_kind, place_type}
-use Rattle.roopl_semantics.specs.class_rules.Statements.{verdict_passed, required, is_class, is_int_array, takes_object, takes_object_of}
-use Rattle.roopl_semantics.specs.class_rules.Statements.{takes_objects_of, takes, made_known, length_is_int, make_rules, type_known}
+use Rattle.roopl_semantics.specs.class_rules.Statements.{verdict_passed, required, is_class, is_int_array, takes_object}
+use Rattle.roopl_semantics.specs.class_rules.Statements.{takes_object_of}
+use Rattle.roopl_semantics.specs.class_rules.Statements.{takes_objects_of, takes, made_known, length_is_int, make_rules}
+use Rattle.roopl_semantics.specs.class_rules.Statements.{type_known}
 use Rattle.roopl_semantics.specs.class_rules.Statements.{is_class_array, takes_copy, written_kind, copy_rules}
 use Rattle.roopl_semantics.specs.class_rules.Program.{setting_in}
 use Rattle.roopl_semantics.proofs.class_rules_laws.Tables.{table_reads}
@@ -38,7 +41,8 @@ use Rattle.roopl_semantics.specs.Execution.{same_cell, is_of_class, all_zero, al
 use Rattle.roopl_semantics.specs.Execution.{new_array, delete_array, statement}
 use Rattle.roopl_semantics.specs.Laws.{one_if_name, holders_among}
 use Rattle.roopl_semantics.specs.class_rules.Inheritance.{is_or_inherits, kind_of_var}
-use Rattle.meaning_sound.specs.Sound.{head_named, head_fits, named_fits, is_of_kind, cell_kinds, AllFit, cell_kind, Sound}
+use Rattle.meaning_sound.specs.Sound.{head_named, head_fits, named_fits, is_of_kind, cell_kinds, AllFit, cell_kind}
+use Rattle.meaning_sound.specs.Sound.{Sound}
 use Rattle.meaning_sound.specs.Sound.{Keeps}
 use Rattle.meaning_sound.proofs.Cells.{typed_of, read_fits}
 use Rattle.meaning_sound.proofs.Classes.{KnowsClasses}
@@ -407,7 +411,8 @@ module _ (setting : Setting) (classes : KnowsClasses setting.program) (run : Run
 
   -- a value of a class is of one above it
   pub above_fits : (store : Store) (n a b : ℕ) → is_or_inherits program a b ≡ true
-      → is_of_kind program store (Name n) (kind.Class a) ≡ true → is_of_kind program store (Name n) (kind.Class b) ≡ true
+      → is_of_kind program store (Name n) (kind.Class a) ≡ true
+      → is_of_kind program store (Name n) (kind.Class b) ≡ true
   above_fits store n a b h f = by (head_named store n) f
     where
       by : (o : Option Head) → named_fits program (kind.Class a) o ≡ true → named_fits program (kind.Class b) o ≡ true
@@ -551,7 +556,8 @@ module _ (setting : Setting) (classes : KnowsClasses setting.program) (run : Run
       ends_check (Kept st) NOT_NIL (not (is_nil (read st b))) end (λ r.
       let fit = read_fits setting extra shape class st a p.first t ha in
       let nm = reference program st.store (read st a) p.first fit p.first_refers q in
-      subst (λ v. Kept st (count_changed suc (Rattle.roopl_semantics.specs.Value.written st b v) (number_of v))) (sym nm.is)
+      subst (λ v. Kept st (count_changed suc (Rattle.roopl_semantics.specs.Value.written st b v) (number_of v)))
+      (sym nm.is)
       (copy_keeps setting extra shape class st a b p.first p.second nm.name s ha hb nm.is (nil_is (read st b) r)
       (p.below st.store nm.name (subst (λ v. is_of_kind program st.store v p.first ≡ true) nm.is fit))))))))
 
@@ -565,7 +571,8 @@ module _ (setting : Setting) (classes : KnowsClasses setting.program) (run : Run
       ends_given (Kept st) (index_nodes target) (cell_of program st target) _ (λ b f.
       let ha = cell_is st source p.first a s p.source_is e in
       let hb = cell_is st target p.second b s p.target_is f in
-      let end : Unit {0} → Run State = λ x. give (count_changed one_less (Rattle.roopl_semantics.specs.Value.written st b Nil)
+      let end : Unit {0} → Run State = λ x. give (count_changed one_less
+      (Rattle.roopl_semantics.specs.Value.written st b Nil)
       (number_of (read st a))) in
       let changed = own_element target in
       let reads = index_elements source ++ index_elements target in

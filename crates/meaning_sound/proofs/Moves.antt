@@ -136,7 +136,8 @@ module _ (setting : Setting) (extra : ℕ → ℕ) (shape : Locals) (class : ℕ
   }
 
   moved_write : (st : State) (cell : Cell) (k : Kind) (v : Value) → Typed setting extra shape class st
-      → cell_kind program shape st.store cell ≡ Some k → is_of_kind program st.store v k ≡ true → Moved st (written st cell v)
+      → cell_kind program shape st.store cell ≡ Some k → is_of_kind program st.store v k ≡ true
+      → Moved st (written st cell v)
   moved_write st cell k v t h f = record {
     typed = typed_written setting extra shape class st cell k v t h f;
     heads = heads_written setting extra shape class st cell v;

@@ -5,20 +5,24 @@ use Rattle.std.specs.Prelude.{not, ◌&&◌, ◌||◌, if◌then◌else◌}
 use Rattle.std.specs.Option.{is_none}
 use Rattle.std.specs.Str.{bytes_eq}
 use Rattle.roopl_semantics.specs.rpp_tree.declared.tree.Var.{Var}
-use Rattle.roopl_semantics.specs.rpp_tree.Tree.{Expression, Statement, Statements, Update, If, From, Construct, Local, End, Then}
+use Rattle.roopl_semantics.specs.rpp_tree.Tree.{Expression, Statement, Statements, Update, If, From, Construct, Local}
+use Rattle.roopl_semantics.specs.rpp_tree.Tree.{End, Then}
 use Rattle.roopl_semantics.specs.rpp_tree.Tree.{joined}
 use Rattle.roopl_semantics.specs.class_rules.declared.kind.Kind.{Kind}
 use Rattle.roopl_semantics.specs.class_rules.Overrides.{is_type_int, same_type}
 use Rattle.roopl_semantics.specs.class_rules.Refusal.{type_differs, redeclared, local_in_own_expression}
 use Rattle.roopl_semantics.specs.class_rules.Scope.{Typing, Locals, local_kind, kind_of}
 use Rattle.roopl_semantics.specs.class_rules.Expressions.{is_int, type_of, occurs, first_token}
-use Rattle.roopl_semantics.specs.class_rules.Statements.{verdict_passed, required, in_turn, test_rules, type_known, is_nil_word, local_rules}
-use Rattle.roopl_semantics.specs.class_rules.Statements.{construct_rules, with_local, with_object, check_statement, check_statements}
+use Rattle.roopl_semantics.specs.class_rules.Statements.{verdict_passed, required, in_turn, test_rules, type_known}
+use Rattle.roopl_semantics.specs.class_rules.Statements.{is_nil_word, local_rules}
+use Rattle.roopl_semantics.specs.class_rules.Statements.{construct_rules, with_local, with_object, check_statement}
+use Rattle.roopl_semantics.specs.class_rules.Statements.{check_statements}
 use Rattle.roopl_semantics.specs.inverse_rules.Inverse.{inverse_statement_as, inverse_as, inverse}
 use Rattle.roopl_semantics.proofs.inverse_rules_laws.InverseWalks.{IsTurned, block_turned as walk_block_turned}
 use Rattle.roopl_semantics.proofs.class_rules_laws.SameTypes.{types_same}
 use Rattle.meaning_sound.specs.Plain.{ReceiverIsPlain, words_and, IsPlain}
-use Rattle.roopl_semantics.proofs.class_rules_laws.PassedRules.{both_passed, in_turn_passes, held, required_passes, handed_on, hands_on}
+use Rattle.roopl_semantics.proofs.class_rules_laws.PassedRules.{both_passed, in_turn_passes, held, required_passes}
+use Rattle.roopl_semantics.proofs.class_rules_laws.PassedRules.{handed_on, hands_on}
 use Rattle.roopl_semantics.proofs.class_rules_laws.PassedRules.{both_true}
 use Rattle.roopl_semantics.proofs.class_rules_laws.FirstPlaces.{same_name, bytes_turned}
 
@@ -36,7 +40,8 @@ and_turned false false = refl
 
 -- ---- blocks one after the other
 
-pub check_joined : (setting : Typing) (locals : Locals) (a b : Statements) → check_statements setting locals a ≡ verdict_passed
+pub check_joined : (setting : Typing) (locals : Locals) (a b : Statements)
+    → check_statements setting locals a ≡ verdict_passed
     → check_statements setting locals b ≡ verdict_passed → check_statements setting locals (joined a b) ≡ verdict_passed
 check_joined setting locals End b h k = k
 check_joined setting locals (Then first rest) b h k =
@@ -113,7 +118,8 @@ local_turned setting locals at var value end_var end_value h =
 -- ---- statements and blocks
 
 mutual
-  statement_undone : (setting : Typing) (locals : Locals) (s : Statement) → check_statement setting locals s ≡ verdict_passed
+  statement_undone : (setting : Typing) (locals : Locals) (s : Statement)
+      → check_statement setting locals s ≡ verdict_passed
       → check_statement setting locals (inverse_statement_as true s) ≡ verdict_passed
   statement_undone setting locals (Update at op target value) h = h
   statement_undone setting locals (If at test taken other after) h =
@@ -147,7 +153,8 @@ mutual
   statement_undone setting locals _ h = h
 
   block_undone : (setting : Typing) (locals : Locals) (body : Statements)
-      → check_statements setting locals body ≡ verdict_passed → check_statements setting locals (inverse_as true body) ≡ verdict_passed
+      → check_statements setting locals body ≡ verdict_passed
+      → check_statements setting locals (inverse_as true body) ≡ verdict_passed
   block_undone setting locals End h = h
   block_undone setting locals (Then first rest) h =
       let a = both_passed (check_statement setting locals first) (check_statements setting locals rest) h in
@@ -157,7 +164,8 @@ mutual
       (statement_undone setting locals first a.0) refl)
 
 pub inverse_checks : (setting : Typing) (locals : Locals) (body : Statements)
-    → check_statements setting locals body ≡ verdict_passed → check_statements setting locals (inverse body) ≡ verdict_passed
+    → check_statements setting locals body ≡ verdict_passed
+    → check_statements setting locals (inverse body) ≡ verdict_passed
 inverse_checks setting locals body h = block_undone setting locals body h
 
 plain_turned : IsTurned (λ (A B : Type 0). B → A) (words_and ReceiverIsPlain) true

@@ -20,7 +20,8 @@ use Rattle.roopl_semantics.specs.class_rules.declared.kind.Kind.TheVariants as k
 use Rattle.roopl_semantics.specs.class_rules.Table.{table_of}
 use Rattle.roopl_semantics.specs.class_rules.Refusal.{type_differs, refused_operator}
 use Rattle.roopl_semantics.specs.class_rules.Scope.{Typing, Locals, kind_in}
-use Rattle.roopl_semantics.specs.class_rules.Expressions.{then_checked, is_int, element_kind, element_kind_of as element_type}
+use Rattle.roopl_semantics.specs.class_rules.Expressions.{then_checked, is_int, element_kind}
+use Rattle.roopl_semantics.specs.class_rules.Expressions.{element_kind_of as element_type}
 use Rattle.roopl_semantics.specs.class_rules.Expressions.{index_is_int}
 use Rattle.roopl_semantics.specs.class_rules.Expressions.{variable_type, type_of, place_type, is_comparison, is_refused}
 use Rattle.roopl_semantics.specs.class_rules.Expressions.{operands_fit}
@@ -74,7 +75,8 @@ updated_word update.Add a b h k = mod-lt (a + b) (omega arith)
 updated_word update.Sub a b h k = mod-lt _ (omega arith)
 updated_word update.Xor a b h k = xor_lt 32 a b h k
 
-pub word_fits : (program : Source) (store : Store) (w : ℕ) → w < 2 ^ 32 → is_of_kind program store (Word w) kind.Int ≡ true
+pub word_fits : (program : Source) (store : Store) (w : ℕ) → w < 2 ^ 32
+    → is_of_kind program store (Word w) kind.Int ≡ true
 word_fits program store w h = lt-ltb w (2 ^ 32) h
 
 -- an int is a word
@@ -232,7 +234,8 @@ module _ (setting : Setting) (classes : KnowsClasses setting.program) (extra : �
       → type_of typing locals e ≡ Ok k → ValueFits program st.store k (value program st e)
   value_fits st (Number at word) k t w h = let s : kind.Int ≡ k = cc in
       subst (λ z. is_of_kind program st.store (Word word) z ≡ true) s (word_fits program st.store word w)
-  value_fits st (Null at) k t w h = let s : kind.Nil ≡ k = cc in subst (λ z. is_of_kind program st.store Nil z ≡ true) s refl
+  value_fits st (Null at) k t w h = let s : kind.Nil ≡ k = cc in
+      subst (λ z. is_of_kind program st.store Nil z ≡ true) s refl
   value_fits st (Variable name) k t w h = read_fits setting extra shape class st (cell_named program st name.text) k t
       (variable_fits st name k t h)
   value_fits st (Element name index) k t w h = read_found st k

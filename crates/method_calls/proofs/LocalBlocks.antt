@@ -25,7 +25,8 @@ use Rattle.refine_form.specs.roopl_semantics.Store.{Value, State, same_value}
 use Rattle.refine_form.specs.roopl_semantics.Value.{Slot, read, evaluated}
 use Rattle.refine_form.specs.roopl_semantics.Execution.{exec, statement, opened, closed, with_local, constructed}
 use Rattle.refine_form.specs.roopl_semantics.Execution.{element_call, element_name}
-use Rattle.refine_form.specs.Form.{World, Scope, Moved, HasOpenFrame, holding, Owes, StmtLaw, BlockLaw, ValueLaw, with_var}
+use Rattle.refine_form.specs.Form.{World, Scope, Moved, HasOpenFrame, holding, Owes, StmtLaw, BlockLaw, ValueLaw}
+use Rattle.refine_form.specs.Form.{with_var}
 use Rattle.refine_form.specs.Form.{run_result, one, turned_statement}
 use Rattle.refine_form.specs.declared.spot.Spot.TheVariants.{Frame}
 use Rattle.refine_form.specs.code_conventions.Cells.{exch}
@@ -84,20 +85,23 @@ module _ (w : World) (IsInit : Scope → Var → Expression → Type 0) (f : Loc
   appears st = told_then (run_result (evaluated w.setting.program e st)) (λ c v. Fine (opened var.name.text v st) 0)
 
   pub opens_var : (n : ℕ) (st : State) (m : Memory) → HasOpenFrame w s u st m
-      → Will w.im (local_open j p) false m (Late 2 (Meets (HasOpenFrame w (with_var s var) u) w.rates n 53 (appears st)))
+      → Will w.im (local_open j p) false m (Late 2 (Meets (HasOpenFrame w (with_var s var) u) w.rates n 53
+      (appears st)))
   opens_var n st m h =
       let cs = m.cells in
       let t = run_result (evaluated w.setting.program e st) in
       let rest : Will w.im (in_order false (p ∷ store_code j ∷ [])) false (mk 0 ob fr 0 0 0 0 0 cs)
       (Meets (HasOpenFrame w (with_var s var) u) w.rates n (50 + 3) (appears st)) =
-      meets_then w.im false (λ v m1. m1 ≡ holding w u (bit_xor 0 (w.word_of u st v)) cs) (HasOpenFrame w (with_var s var) u)
+      meets_then w.im false (λ v m1. m1 ≡ holding w u (bit_xor 0 (w.word_of u st v)) cs)
+      (HasOpenFrame w (with_var s var) u)
       w.rates n 50 3 p (store_code j ∷ []) (mk 0 ob fr 0 0 0 0 0 cs) t (λ c v. Fine (opened var.name.text v st) 0)
       (will_more w.im p false _ _ _ (λ o q. meets_rate (omega (arith, thousand)) q)
       (hp n false u 0 st cs (w.are_read s u st cs h.open_frame))) (λ c v m1 said i.
       let x = w.word_of u st v in
       let z : bit_xor 0 x ≡ x = no_xor x in
       let known : m1 ≡ mk 0 ob fr 0 0 0 0 x cs = i ∙ ap (λ y. mk 0 ob fr 0 0 0 0 y cs) z in
-      let done : HasOpenFrame w (with_var s var) u (opened var.name.text v st) (mk 0 ob fr 0 0 0 0 0 (slice_set cs (fr + j) x))
+      let done : HasOpenFrame w (with_var s var) u (opened var.name.text v st)
+      (mk 0 ob fr 0 0 0 0 0 (slice_set cs (fr + j) x))
       = record { regs_are = refl; open_frame = f.declares s u st cs var e v c h.open_frame is said } in
       will_last w.im false (store_code j) m1 _ (subst (λ z. Will w.im (store_code j) false z
       (Meets (HasOpenFrame w (with_var s var) u) w.rates (n - c) 3 (Fine (opened var.name.text v st) 0))) (sym known)
@@ -147,7 +151,8 @@ module _ (w : World) (IsInit : Scope → Var → Expression → Type 0) (f : Loc
   last_check n st cs v c h said m1 i false same =
       let nz = f.other_words s u st cs var e v c h is said same in
       let x = bit_xor (w.word_of u st (read st (Slot 0))) (w.word_of u (closed st) v) in
-      let told_is : checked st v ≡ Fault DELOCAL 0 = ap (λ b. run_result (fault_if DELOCAL (not b) >>= λ z. give (closed st)))
+      let told_is : checked st v ≡ Fault DELOCAL 0 = ap (λ b. run_result
+      (fault_if DELOCAL (not b) >>= λ z. give (closed st)))
       same in
       let k = runs_fails w.im true (Equal 12 7) 3 (mk 0 ob fr 0 0 0 0 x (gone cs)) nz in
       subst (λ z. Will w.im (check_equal_cells VALUE NOUGHT DELOCAL) true z
@@ -164,7 +169,8 @@ module _ (w : World) (IsInit : Scope → Var → Expression → Type 0) (f : Loc
       let rest : Will w.im (in_order true (p ∷ check_equal_cells VALUE NOUGHT DELOCAL ∷ [])) true
       (mk 0 ob fr 0 0 0 0 x cs1)
       (Meets (HasOpenFrame w s u) w.rates n (50 + 2) (told_then t (λ c v. checked st v))) =
-      meets_then w.im true (λ v m1. m1 ≡ holding w u (bit_xor x (w.word_of u (closed st) v)) cs1) (HasOpenFrame w s u) w.rates n
+      meets_then w.im true (λ v m1. m1 ≡ holding w u (bit_xor x (w.word_of u (closed st) v)) cs1) (HasOpenFrame w s u)
+      w.rates n
       50 2 p (check_equal_cells VALUE NOUGHT DELOCAL ∷ []) (mk 0 ob fr 0 0 0 0 x cs1) t (λ c v. checked st v)
       (will_more w.im p true _ _ _ (λ o q. meets_rate (omega (arith, thousand)) q)
       (hp n true u x (closed st) cs1 (f.undeclares s u st cs var e h.open_frame is))) (λ c v m1 said i.
@@ -223,7 +229,8 @@ module _ (w : World) (IsInit : Scope → Var → Expression → Type 0) (f : Loc
       (st : State) (m : Memory)
       → Will w.im p1 d m (Late 2 (Meets (HasOpenFrame w (with_var s var) u) w.rates n 53
       (told_then (run_result (evaluated w.setting.program e st)) (λ c v. Fine (opened var.name.text v st) 0))))
-      → ((n' : ℕ) → n' ≤ n → Does w.im pb d (HasOpenFrame w (with_var s var) u) (HasOpenFrame w (with_var s var) u) w.rates n' 0
+      → ((n' : ℕ) → n' ≤ n → Does w.im pb d (HasOpenFrame w (with_var s var) u) (HasOpenFrame w (with_var s var) u)
+      w.rates n' 0
       (λ st. run_result (exec w.setting n body st)))
       → ((n' : ℕ) (st : State) (m : Memory) → HasOpenFrame w (with_var s var) u st m
       → Will w.im p3 d m (Meets (HasOpenFrame w s u) w.rates n' 55
@@ -239,7 +246,8 @@ module _ (w : World) (IsInit : Scope → Var → Expression → Type 0) (f : Loc
       will_more w.im _ d _ _ _ (λ o q. late_counts 1 0 counts (omega arith) (omega (arith, thousand)) q)
       (late_then w.im d S (HasOpenFrame w s u) w.rates n 53 (0 + 55) 2 p1 (pb ∷ p3 ∷ []) m _
       (λ c st1. told_then (run_result (exec w.setting n body st1)) (λ c end. rest end)) first (λ c st1 m1 said i.
-      meets_then w.im d S (HasOpenFrame w s u) w.rates (n - c) 0 55 pb (p3 ∷ []) m1 (run_result (exec w.setting n body st1))
+      meets_then w.im d S (HasOpenFrame w s u) w.rates (n - c) 0 55 pb (p3 ∷ []) m1
+      (run_result (exec w.setting n body st1))
       (λ c end. rest end) ((block (n - c) (omega arith)).does st1 m1 i) (λ c2 end m2 said2 i2.
       will_last w.im d p3 m2 _ (last (n - c - c2) end m2 i2))))
 
@@ -257,7 +265,8 @@ module _ (w : World) (IsInit : Scope → Var → Expression → Type 0) (f : Loc
       → Will w.im (local_code (new_word s) pv pb pe) d m (Meets (HasOpenFrame w s u) w.rates (suc n) 0
       (run_result (one w.setting n (turned_statement d stmt) st)))
   runs_local n owes false u st m h =
-      let less : (n' : ℕ) → n' ≤ n → Does w.im pb false (HasOpenFrame w (with_var s var) u) (HasOpenFrame w (with_var s var) u) w.rates
+      let less : (n' : ℕ) → n' ≤ n → Does w.im pb false (HasOpenFrame w (with_var s var) u)
+      (HasOpenFrame w (with_var s var) u) w.rates
       n' 0 (λ st. run_result (exec w.setting n body st)) = λ n' l. record {
         does = λ a m1 i. will_more w.im pb false _ _ _ (λ o q. meets_less n' l q)
             ((hb n (λ k l2. owes k (omega arith)) false u).does a m1 i);
@@ -275,7 +284,8 @@ module _ (w : World) (IsInit : Scope → Var → Expression → Type 0) (f : Loc
       (append-nil (mirror_cells (local_open (new_word s) pe)))
       (will_more w.im _ false _ _ _ (λ o q. meets_told _ _ (sym said) (meets_less (suc n) (omega arith) q)) all)
   runs_local n owes true u st m h =
-      let less : (n' : ℕ) → n' ≤ n → Does w.im pb true (HasOpenFrame w (with_var s var) u) (HasOpenFrame w (with_var s var) u) w.rates
+      let less : (n' : ℕ) → n' ≤ n → Does w.im pb true (HasOpenFrame w (with_var s var) u)
+      (HasOpenFrame w (with_var s var) u) w.rates
       n' 0 (λ st. run_result (exec w.setting n (inverse body) st)) =
       λ n' l. record {
         does = λ a m1 i. will_more w.im pb true _ _ _ (λ o q. meets_less n' l q)

@@ -133,7 +133,8 @@ module _ (w : World) (knows : KnownCalls w) (f : FrameFacts w knows) (statics : 
       let t = run_result (exec w.setting n (main_body program) (starting program input)) in
       let owed = all_owe w laws (suc n) n (omega arith) mf.main mf.is_routine in
       let inner : (link : ℕ) → 0 < link → link < 2 ^ 32 → Will w.im (w.routines.body mf.main) false
-      (memory_with_reg (mk 0 MAIN_OBJECT fr 0 0 0 0 0 loaded_cells) 2 link) (Returns link false (Meets InMain w.rates n 50 t))
+      (memory_with_reg (mk 0 MAIN_OBJECT fr 0 0 0 0 0 loaded_cells) 2 link)
+      (Returns link false (Meets InMain w.rates n 50 t))
       =
       λ link pos lw.
       let inside : Entered w s mf.first link 0 (starting program input) (mk link MAIN_OBJECT fr 0 0 0 0 0 loaded_cells)

@@ -160,7 +160,8 @@ module _ (w : World) (knows : KnownCalls w) (f : FrameFacts w knows) (s : Scope)
             up = m.moved;
             goes = will_two w.im (moves_code (knows.spot s) names) (move_code sp (length names)) (plain w u cs)
                 (plain w u before.cells) (8 * length names) _ before.goes
-                (will_more w.im _ false _ _ _ (λ o q. ap (outcome_after (8 * length names)) q ∙ ap (Done (plain w u cs2)) z)
+                (will_more w.im _ false _ _ _ (λ o q. ap (outcome_after (8 * length names)) q
+                ∙ ap (Done (plain w u cs2)) z)
                 step);
           }
 

@@ -22,11 +22,13 @@ use Rattle.refine_form.specs.roopl_semantics.Store.{Value, Name, State, is_zero,
 use Rattle.refine_form.specs.roopl_semantics.Value.{Cell, read, written, cell_named, NIL}
 use Rattle.refine_form.specs.roopl_semantics.Execution.{Setting, exec, in_direction, invoked, moved_out, moved_back}
 use Rattle.refine_form.specs.roopl_semantics.Execution.{bound, cells_named, class_of, is_too_deep, TOO_DEEP, TOUCHED}
-use Rattle.refine_form.specs.Form.{World, Scope, pairs, HasOpenFrame, Owes, StmtLaw, registers, run_result, one, turned_statement}
+use Rattle.refine_form.specs.Form.{World, Scope, pairs, HasOpenFrame, Owes, StmtLaw, registers, run_result, one}
+use Rattle.refine_form.specs.Form.{turned_statement}
 use Rattle.refine_form.specs.code_conventions.Cells.{addi}
 use Rattle.method_calls.specs.CallCode.{depth_code, moves_code, fetch_row, nil_code, take_code, onto_code}
 use Rattle.method_calls.specs.CallCode.{front_on_code, call_on_code}
-use Rattle.method_calls.specs.Facts.{KnownCalls, FrameFacts, Receivers, ReceiverFacts, HasPlace, ReceiverGoesOn, ReturnsReceiver, address}
+use Rattle.method_calls.specs.Facts.{KnownCalls, FrameFacts, Receivers, ReceiverFacts, HasPlace, ReceiverGoesOn}
+use Rattle.method_calls.specs.Facts.{ReturnsReceiver, address}
 use Rattle.method_calls.specs.Facts.{ReceiverWord, FindsMethod, callee_on, out_from, vals_from}
 use Rattle.refine_form.proofs.Told.{told_after, told_bind, plus_none, plus_plus}
 use Rattle.refine_form.proofs.Rules.{wraps_spent, will_around, meets_told, meets_less, meets_later, meets_as, as_known}
@@ -51,10 +53,12 @@ stays (b ∷ cells) [] st end k c n e = let q : st ≡ end = cc in ap (λ z. rea
 stays (b ∷ cells) (v ∷ values) st end k c n e = by (is_zero (read st b)) refl
     (λ k e. stays cells values (written st b v) end k c n.1 e)
   where
-    by : (z : Bool) → is_zero (read st b) ≡ z → ((k : ℕ) → run_result (moved_back cells values (written st b v)) ≡ Fine end k
+    by : (z : Bool) → is_zero (read st b) ≡ z → ((k : ℕ) → run_result (moved_back cells values (written st b v))
+        ≡ Fine end k
         → read end c ≡ read (written st b v) c) → read end c ≡ read st c
     by true z ih =
-        let said : run_result (moved_back (b ∷ cells) (v ∷ values) st) ≡ run_result (moved_back cells values (written st b v)) =
+        let said : run_result (moved_back (b ∷ cells) (v ∷ values) st)
+        ≡ run_result (moved_back cells values (written st b v)) =
         ap (λ x. run_result (fault_if TOUCHED (not x) >>= λ t. moved_back cells values (written st b v))) z
         ∙ told_after 0 (moved_back cells values (written st b v))
         ∙ plus_none (run_result (moved_back cells values (written st b v))) in
@@ -102,7 +106,8 @@ module _ (setting : Setting) (n : ℕ) (back : Bool) (at : ℕ) (x name : Ident)
   zero_more : 1 + length args + 0 ≡ 1 + length args
   zero_more = omega arith
 
-  pub says_nil : is_nil (read st the_cell) ≡ true → run_result (one setting n (Call at back (Some (Whole x)) name args) st)
+  pub says_nil : is_nil (read st the_cell) ≡ true → run_result
+      (one setting n (Call at back (Some (Whole x)) name args) st)
       ≡ Fault NIL (1 + length args)
   says_nil e = counted ∙ ap (λ b. plus (1 + length args) (run_result (fault_if NIL b >>= λ z. deep_run))) e
       ∙ ap (Fault NIL) zero_more
@@ -148,7 +153,8 @@ module _ (setting : Setting) (n : ℕ) (back : Bool) (at : ℕ) (x name : Ident)
       ∙ ap (λ m. run_result (Inv m (number_of (read st c)) c (cells_named setting st args)
       (moved_out (c ∷ cells_named setting st args) st) (map (read st) (cells_named setting st args)) (read st c)
       st.depth)) em
-      ∙ ap (λ i. run_result (Inv method i c (cells_named setting st args) (moved_out (c ∷ cells_named setting st args) st)
+      ∙ ap (λ i. run_result (Inv method i c (cells_named setting st args)
+      (moved_out (c ∷ cells_named setting st args) st)
       (map (read st) (cells_named setting st args)) (read st c) st.depth)) es
       ∙ ap (λ l. run_result (Inv method self c l (moved_out (c ∷ l) st) (map (read st) l) (read st c) st.depth)) ecs
       ∙ ap (λ z. run_result (Inv method self c cells z (map (read st) cells) (read st c) st.depth)) eo
@@ -333,7 +339,8 @@ module _ (w : World) (knows : KnownCalls w) (f : FrameFacts w knows) (on : Recei
         (will_two w.im onto_code _ _ _ 5 _ onto
         (will_two w.im (line (addi FRAME FRAME_WORDS ∷ [])) (line (fetch_row slot)) _ _ 1 _ raise
         (will_more w.im (line (fetch_row slot)) false _ _ _
-        (λ o q. ap (λ o. outcome_after 6 (outcome_after 8 (outcome_after (8 * length args) (outcome_after 5 (outcome_after 5 (outcome_after 1 o)))))) q)
+        (λ o q. ap (λ o. outcome_after 6 (outcome_after 8 (outcome_after (8 * length args)
+        (outcome_after 5 (outcome_after 5 (outcome_after 1 o)))))) q)
         (fetched in_cells has_place)))))))
 
     -- what the source says when the body has ended
@@ -432,7 +439,8 @@ module _ (w : World) (knows : KnownCalls w) (f : FrameFacts w knows) (on : Recei
           (λ q. (k : ℕ) × (k ≤ 18) × (q ≡ Trapped TOUCHED k)) =
           will_two_back w.im (take_code sp) (onto_code ++ last_row) m0 (mk 0 ob fr 0 0 word 0 0 (out_cells cs2)) 13 _
           lowered
-          (will_more w.im _ true _ _ _ (λ o t. (13 + t.0, (let l = t.1 in omega arith), ap (outcome_after 13) t.2)) found) in
+          (will_more w.im _ true _ _ _ (λ o t. (13 + t.0, (let l = t.1 in omega arith), ap (outcome_after 13) t.2))
+          found) in
           let W : Memory → ℕ → Type 0 = λ m1 k. Will w.im (moves_code (knows.spot s) args) true m1
           (λ o. Moved (outcome_after k o)) in
           will_seq_back w.im (moves_code (knows.spot s) args) (take_code sp ++ (onto_code ++ last_row)) m0 Moved
@@ -510,7 +518,8 @@ module _ (w : World) (knows : KnownCalls w) (f : FrameFacts w knows) (on : Recei
   early n code kind d t =
       let Q : Outcome → Type 0 = Meets (HasOpenFrame w s u) w.rates (suc n) 0 (Fault code (1 + length args)) in
       let W : Memory → ℕ → Type 0 = λ m1 k1. Will w.im (enter_at_cells VALUE kind) d m1
-      (Next (λ m2 k2. Will w.im (front_on_code (knows.spot s) x slot args) true m2 (λ o. Q (outcome_after k1 (outcome_after k2 o))))
+      (Next (λ m2 k2. Will w.im (front_on_code (knows.spot s) x slot args) true m2
+      (λ o. Q (outcome_after k1 (outcome_after k2 o))))
       (λ o. Q (outcome_after k1 o))) in
       will_around w.im d (front_on_code (knows.spot s) x slot args) (enter_at_cells VALUE kind) _ Q
       (will_more w.im _ false _ _ _ (λ o q. subst (Next W Q) (sym q.2)
@@ -549,7 +558,8 @@ module _ (w : World) (knows : KnownCalls w) (f : FrameFacts w knows) (on : Recei
 -- ---- the law
 
 turned_on : (d back : Bool) (at : ℕ) (x name : Ident) (args : List Ident)
-    → turned_statement d (Call at back (Some (Whole x)) name args) ≡ Call at (bool_xor d back) (Some (Whole x)) name args
+    → turned_statement d (Call at back (Some (Whole x)) name args)
+    ≡ Call at (bool_xor d back) (Some (Whole x)) name args
 turned_on false back at x name args = refl
 turned_on true back at x name args = refl
 
@@ -573,7 +583,8 @@ module _ (w : World) (knows : KnownCalls w) (f : FrameFacts w knows) (on : Recei
 
   abbrev Goal : ℕ → Bool → (u : w.Under) → State → Memory → Type 0
   Goal n d u st m = Will w.im (call_on_code (knows.spot s) back x (on.slot_on s x name) args) d m
-      (Meets (HasOpenFrame w s u) w.rates (suc n) 0 (run_result (one w.setting n (turned_statement d (Call at back (Some (Whole x)) name args))
+      (Meets (HasOpenFrame w s u) w.rates (suc n) 0 (run_result
+      (one w.setting n (turned_statement d (Call at back (Some (Whole x)) name args))
       st)))
 
   law_by : (n : ℕ) → Owes w (suc n) → (d : Bool) (u : w.Under) (st : State) (m : Memory) → HasOpenFrame w s u st m

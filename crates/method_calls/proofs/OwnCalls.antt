@@ -21,7 +21,8 @@ use Rattle.refine_form.specs.roopl_semantics.Store.{Value, State}
 use Rattle.refine_form.specs.roopl_semantics.Value.{Cell, read, own_class}
 use Rattle.refine_form.specs.roopl_semantics.Execution.{Setting, exec, in_direction, invoked, moved_out, moved_back}
 use Rattle.refine_form.specs.roopl_semantics.Execution.{bound, cells_named, is_too_deep, TOO_DEEP}
-use Rattle.refine_form.specs.Form.{World, Scope, pairs, HasOpenFrame, Entered, Owes, StmtLaw, RunsBody, registers, run_result, one}
+use Rattle.refine_form.specs.Form.{World, Scope, pairs, HasOpenFrame, Entered, Owes, StmtLaw, RunsBody, registers}
+use Rattle.refine_form.specs.Form.{run_result, one}
 use Rattle.refine_form.specs.Form.{turned_statement}
 use Rattle.refine_form.specs.code_conventions.Cells.{addi}
 use Rattle.method_calls.specs.CallCode.{depth_code, moves_code, fetch_row, front_code, call_code}
@@ -50,7 +51,10 @@ module _ (w : World) (s : Scope) (u : w.Under) (place : ℕ) where
       let known = as_known m _ r.regs_are in (
         ap (λ z. memory_reg z LINK) known,
         ap (λ z. memory_reg z VALUE) known,
-        λ e lo hi. fine (record { regs_are = ap (λ z. (memory_with_reg z LINK 0).regs) known; open_frame = r.open_frame })
+        λ e lo hi. fine (record {
+          regs_are = ap (λ z. (memory_with_reg z LINK 0).regs) known;
+          open_frame = r.open_frame;
+        })
             (grow w.rates.counts k e c l) (omega arith),
       )
     where
@@ -67,14 +71,16 @@ module _ (w : World) (s : Scope) (u : w.Under) (place : ℕ) where
       (owed : RunsBody w s (w.routines.method r) (w.routines.body r) n) (fresh : w.IsFresh u) where
     pub enters_body : (kind d : Bool) (st : State) (cs : List ℕ) → w.opens s u [] st cs
         → Will w.im (enter_at_cells VALUE kind) d (mk 0 (w.object_of u) (w.frame_of u) 0 0 0 0 place cs)
-        (Meets InCall w.rates n 55 (run_result (exec w.setting n (in_direction (bool_xor kind d) (w.routines.method r).body) st)))
+        (Meets InCall w.rates n 55 (run_result (exec w.setting n
+        (in_direction (bool_xor kind d) (w.routines.method r).body) st)))
     enters_body kind d st cs h =
         let m = mk 0 (w.object_of u) (w.frame_of u) 0 0 0 0 place cs in
         let Q : Outcome → Type 0 = Meets InCall w.rates n 55
         (run_result (exec w.setting n (in_direction (bool_xor kind d) (w.routines.method r).body) st)) in
         will_enter_at w.im (w.routines.number r) (w.routines.top r) (w.routines.body r) 12 kind d m Q tidy stands
         (λ e. omega arith) (omega arith) refl place_is (λ link pos lw.
-        let inside : Entered w s u link place st (memory_with_reg m LINK link) = record { regs_are = refl; open_frame = h } in
+        let inside : Entered w s u link place st (memory_with_reg m LINK link) =
+        record { regs_are = refl; open_frame = h } in
         will_more w.im (w.routines.body r) (bool_xor kind d) _ _ _
         (λ o q. subst (λ z. Returns_at 12 z link Q o) place_is (returns link q))
         ((owed (bool_xor kind d) u link place fresh pos lw (let q = stands.small in omega (arith, q, place_is))).does st
@@ -294,7 +300,8 @@ module _ (w : World) (knows : KnownCalls w) (f : FrameFacts w knows) (s : Scope)
         will_more w.im (front_code (knows.spot s) slot args) true _ _ _
         (λ o q. meets_slack (8 + (8 * length args + 8)) (omega arith) q) all
       where
-        checked : (a : State) (m : Memory) → HasOpenFrame w s u a m → Will w.im depth_code true m (Quiet (HasOpenFrame w s u a) 8)
+        checked : (a : State) (m : Memory) → HasOpenFrame w s u a m
+            → Will w.im depth_code true m (Quiet (HasOpenFrame w s u a) 8)
         checked a m i =
             let e = f.has_end s u a m.cells i.open_frame in
             let known = as_known m _ i.regs_are in
@@ -343,7 +350,8 @@ module _ (w : World) (knows : KnownCalls w) (f : FrameFacts w knows) (s : Scope)
       let he = f.has_end s u st cs h in
       let Q : Outcome → Type 0 = Meets (HasOpenFrame w s u) w.rates (suc n) 0 (Fault TOO_DEEP (1 + length args)) in
       let W : Memory → ℕ → Type 0 = λ m1 k1. Will w.im (enter_at_cells VALUE kind) d m1
-      (Next (λ m2 k2. Will w.im (front_code (knows.spot s) slot args) true m2 (λ o. Q (outcome_after k1 (outcome_after k2 o))))
+      (Next (λ m2 k2. Will w.im (front_code (knows.spot s) slot args) true m2
+      (λ o. Q (outcome_after k1 (outcome_after k2 o))))
       (λ o. Q (outcome_after k1 o))) in
       let trap : (o : Outcome) → (k : ℕ) × (k ≤ 4) × (o ≡ Trapped TOO_DEEP k)
       → Next W Q o = λ o t. subst (Next W Q) (sym t.2) (faults
@@ -389,18 +397,22 @@ module _ (w : World) (knows : KnownCalls w) (f : FrameFacts w knows) (s : Scope)
       ((f.steady s u [] st cs h).means x all.0)
       ∙ ap (λ l. knows.cell_of s u x ∷ l) (named u st cs names h all.1)
 
-  law_by : (n : ℕ) → Owes w (suc n) → (d : Bool) (u : w.Under) (st : State) (m : Memory) → HasOpenFrame w s u st m → (b : Bool)
+  law_by : (n : ℕ) → Owes w (suc n) → (d : Bool) (u : w.Under) (st : State) (m : Memory) → HasOpenFrame w s u st m
+      → (b : Bool)
       → not (nat_lt (knows.depth_of u) w.setting.limits.deep) ≡ b
       → Will w.im (call_code (knows.spot s) back (knows.slot s name) args) d m
-      (Meets (HasOpenFrame w s u) w.rates (suc n) 0 (run_result (one w.setting n (turned_statement d (Call at back None name args)) st)))
+      (Meets (HasOpenFrame w s u) w.rates (suc n) 0 (run_result
+      (one w.setting n (turned_statement d (Call at back None name args)) st)))
   law_by n owes d u st m h true e =
       let depth = (f.steady s u [] st m.cells h.open_frame).depth_is in
       let deep : is_too_deep w.setting st ≡ true = ap (λ x. not (nat_lt x w.setting.limits.deep)) depth ∙ e in
-      let said : run_result (one w.setting n (turned_statement d (Call at back None name args)) st) ≡ Fault TOO_DEEP (1 + length args) =
+      let said : run_result (one w.setting n (turned_statement d (Call at back None name args)) st)
+      ≡ Fault TOO_DEEP (1 + length args) =
       ap (λ z. run_result (one w.setting n z st)) (turned_call d back at name args)
       ∙ says_too_deep w.setting n (bool_xor d back) at name args st deep in
       subst (λ z. Will w.im (call_code (knows.spot s) back (knows.slot s name) args) d z
-      (Meets (HasOpenFrame w s u) w.rates (suc n) 0 (run_result (one w.setting n (turned_statement d (Call at back None name args)) st))))
+      (Meets (HasOpenFrame w s u) w.rates (suc n) 0 (run_result
+      (one w.setting n (turned_statement d (Call at back None name args)) st))))
       (sym (as_known m _ h.regs_are))
       (will_more w.im _ d _ _ _ (λ o q. meets_told _ _ (sym said) q)
       (refused w knows f s name args is few u (vars u) st m.cells h.open_frame n back d e))
@@ -425,7 +437,8 @@ module _ (w : World) (knows : KnownCalls w) (f : FrameFacts w knows) (s : Scope)
       (named u st m.cells args h.open_frame (vars u)) (alike u st m.cells h.open_frame).0
       (alike u st m.cells h.open_frame).1 es ed in
       subst (λ z. Will w.im (call_code (knows.spot s) back (knows.slot s name) args) d z
-      (Meets (HasOpenFrame w s u) w.rates (suc n) 0 (run_result (one w.setting n (turned_statement d (Call at back None name args)) st))))
+      (Meets (HasOpenFrame w s u) w.rates (suc n) 0 (run_result
+      (one w.setting n (turned_statement d (Call at back None name args)) st))))
       (sym (as_known m _ h.regs_are))
       (will_more w.im _ d _ _ _ (λ o q. meets_told _ _ (sym said) (meets_less (suc n) (omega arith) q))
       (called w knows f s name args is few u (vars u) st m.cells h.open_frame e n owes back d))

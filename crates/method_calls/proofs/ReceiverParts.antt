@@ -170,7 +170,8 @@ module _ (im : Image) (ob fr recv : ℕ) (cs : List ℕ) (inside : fr + (FRAME_W
       (exchanges false OBJECT FRAME (mk 0 ob up 0 0 recv 0 0 cs) inside
       ∙ ap (λ v. Done (mk 0 v up 0 0 recv 0 0 cs1) 1) z) here))
       (will_lower im 0 fr recv cs1 1 up_low))
-      (will_more im _ false _ _ _ (λ o q. ap (outcome_after 3) q) (will_row im false (add OBJECT MOVED ∷ sub MOVED OBJECT ∷ [])
+      (will_more im _ false _ _ _ (λ o q. ap (outcome_after 3) q)
+      (will_row im false (add OBJECT MOVED ∷ sub MOVED OBJECT ∷ [])
       2 _ _
       (next refl (omega arith) (ap (λ v. Done (mk 0 v fr 0 0 recv 0 0 cs1) 1) (sum_is 0 recv recv (omega arith) small))
       (next refl (omega arith) (ap (λ v. Done (mk 0 recv fr 0 0 v 0 0 cs1) 1)

@@ -19,7 +19,8 @@ use Rattle.refine_heap.specs.paired_code.Does.{Rates, Fine, Fault, Meets, fine, 
 use Rattle.refine_heap.proofs.paired_code_laws.Laws.{will_more}
 use Rattle.refine_heap.proofs.paired_code_laws.Mirrored.{will_mirror}
 use Rattle.static_layout.specs.roopl_semantics.Run.{Run, after_cost, given, give, spend, fault_if, ◌>>=◌}
-use Rattle.static_layout.specs.roopl_semantics.Store.{Value, Word, Nil, Name, Head, OfInts, OfObjects, State, number_of, is_nil}
+use Rattle.static_layout.specs.roopl_semantics.Store.{Value, Word, Nil, Name, Head, OfInts, OfObjects, State, number_of}
+use Rattle.static_layout.specs.roopl_semantics.Store.{is_nil}
 use Rattle.static_layout.specs.roopl_semantics.Value.{Cell, cell_named, read, value, NIL}
 use Rattle.static_layout.specs.roopl_semantics.Execution.{Setting, Runner, statement, freed, NOT_NIL, COUNT}
 use Rattle.static_layout.specs.roopl_semantics.Execution.{NOT_EMPTY, HEAP_FULL, LENGTH_DIFFERS, LENGTH}
@@ -180,7 +181,8 @@ module _ (setting : Setting) (address slot : State → ℕ → ℕ) (R : State �
         (omega arith)
         (makes.news h.x (setting.limits.heap + 1) (most_steps setting.limits.heap + 7) h.taken
         (from_one_on (number_of v) (facts.is_word st m v r nv) eb) h.takes h.allocates
-        (stay st (with_new setting head element (number_of v) (own st) st) m (filled_words (at st) h.x (number_of v) h.taken)
+        (stay st (with_new setting head element (number_of v) (own st) st) m
+        (filled_words (at st) h.x (number_of v) h.taken)
         r h.after h.keeps (facts.made_same st m v r nv e eb ef)))
 
     delete_by : (w : Value) → read st (own st) ≡ w → Will im p true m
@@ -319,7 +321,8 @@ module _ (setting : Setting) (address slot : State → ℕ → ℕ) (R : State �
         → Does im p d R R rates n0 0 (λ st. run_result (after_cost 1
         (statement setting n run (facing d (New here (Objects class size) (Whole name))) st)))
     new_objects_does d here n run = record {
-      does = λ st m h. subst (λ r. Will im p d m (Meets R rates n0 0 (run_result r))) (sym (objects_are d here n run st))
+      does = λ st m h. subst (λ r. Will im p d m (Meets R rates n0 0 (run_result r)))
+          (sym (objects_are d here n run st))
           (array_meets setting address slot R spot free object frame im (OfObjects (number_in setting class)) Nil name
           size rates some many p law facts n0 d st m h (value setting.program st size) refl);
     }

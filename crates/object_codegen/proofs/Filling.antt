@@ -14,7 +14,8 @@ use Rattle.refine_heap.specs.paired_code.Pieces.{Will}
 use Rattle.expr_uncompute.specs.register_expressions.Code.{addi}
 use Rattle.expr_uncompute.specs.register_expressions.Number.{Bases}
 use Rattle.expr_uncompute.specs.Found.{TrapsWithin}
-use Rattle.expr_uncompute.proofs.register_expressions_laws.Goes.{Goes, goes_cons, goes_seq, goes_around, goes_to, goes_set, goes_xor_to}
+use Rattle.expr_uncompute.proofs.register_expressions_laws.Goes.{Goes, goes_cons, goes_seq, goes_around, goes_to}
+use Rattle.expr_uncompute.proofs.register_expressions_laws.Goes.{goes_set, goes_xor_to}
 use Rattle.expr_uncompute.proofs.register_expressions_laws.Goes.{goes_exch, goes_addi}
 use Rattle.expr_uncompute.proofs.register_expressions_laws.Scratch.{keeping, mem}
 use Rattle.object_codegen.specs.declared.shape.Shape.{Shape}
@@ -120,7 +121,8 @@ module _ (b : Bases) (p v : ℕ) where
         (mem b nothing_else (keeping v p 0) (filled_words p x (mark_of v shape) zt))
     alter_leads im lo hi n orders zs found alloc =
         leads_around (goes_seq (moves_go shape zs) (found zs)) (leads_seq alloc.leads (goes_leads im fill_goes))
-        (goes_seq (moves_go shape (filled_words p x (mark_of v shape) zt)) (found (filled_words p x (mark_of v shape) zt)))
+        (goes_seq (moves_go shape (filled_words p x (mark_of v shape) zt))
+        (found (filled_words p x (mark_of v shape) zt)))
 
   -- or there is no block
   pub alter_falls : (im : Image) (o hi n : ℕ) (shape : Shape) (orders : List Symbol) (zs : List ℕ)

@@ -11,10 +11,12 @@ use Rattle.refine_heap.specs.buddy_book.Place.{Log, Taken, count_taken, place as
 use Rattle.refine_heap.specs.buddy_pisa.Promise.{most_steps}
 use Rattle.refine_heap.specs.pisa_isa.Machine.{Memory}
 use Rattle.refine_heap.specs.paired_code.Machine.{Image}
-use Rattle.static_layout.specs.roopl_semantics.Store.{Value, Nil, Name, Head, OfClass, State, number_of, zero_values, object_at}
+use Rattle.static_layout.specs.roopl_semantics.Store.{Value, Nil, Name, Head, OfClass, State, number_of, zero_values}
+use Rattle.static_layout.specs.roopl_semantics.Store.{object_at}
 use Rattle.static_layout.specs.roopl_semantics.Value.{Cell, cell_named, read, written, value, cell_of}
 use Rattle.static_layout.specs.roopl_semantics.Elements.{index_elements, own_element, share_array}
-use Rattle.static_layout.specs.roopl_semantics.Execution.{Setting, new_object, order_of_cells, is_of_class, all_zero, freed}
+use Rattle.static_layout.specs.roopl_semantics.Execution.{Setting, new_object, order_of_cells, is_of_class, all_zero}
+use Rattle.static_layout.specs.roopl_semantics.Execution.{freed}
 use Rattle.expr_uncompute.specs.refine_form.Form.{registers}
 use Rattle.expr_uncompute.specs.refine_form.declared.spot.Spot.{Spot}
 use Rattle.expr_uncompute.specs.register_expressions.Code.{words}
@@ -129,7 +131,8 @@ module _ (setting : Setting) (address slot : State → ℕ → ℕ) (R : State �
 
     pub record ObjectFacts : Type 0 where
       pub regs_are : (st : State) (m : Memory) → R st m → m.regs ≡ registers 0 object frame 0 0 0 0 0
-      pub can : (st : State) (m : Memory) → R st m → CanEvaluate spot free (place_words target) (lvalue_read target) (Null 0) m
+      pub can : (st : State) (m : Memory) → R st m → CanEvaluate spot free (place_words target) (lvalue_read target)
+          (Null 0) m
       pub means : (st : State) (m : Memory) → R st m → MeansPlace (address st) (slot st) setting.program st spot
           (bases_of m) m.cells target
       pub tells : (st : State) (m : Memory) → R st m → TellsShares (address st) (slot st) setting.program st spot

@@ -17,7 +17,8 @@ use Rattle.expr_uncompute.specs.register_expressions.Number.{Bases}
 use Rattle.expr_uncompute.specs.register_expressions.Laws.{bases_of}
 use Rattle.expr_uncompute.specs.Laws.{UpdateStays}
 use Rattle.expr_uncompute.specs.Promises.{free_at}
-use Rattle.expr_uncompute.specs.Found.{found_memory, Filled, Changes, Encloses, PlaceAroundLaw, ValueAroundLaw, LeavesWithin}
+use Rattle.expr_uncompute.specs.Found.{found_memory, Filled, Changes, Encloses, PlaceAroundLaw, ValueAroundLaw}
+use Rattle.expr_uncompute.specs.Found.{LeavesWithin}
 use Rattle.expr_uncompute.specs.Found.{TrapsWithin, found_place_steps, found_value_steps}
 use Rattle.expr_uncompute.proofs.register_expressions_laws.Goes.{Goes, goes_set}
 use Rattle.expr_uncompute.proofs.register_expressions_laws.Scratch.{keeping, mem}
@@ -65,7 +66,8 @@ module _ (im : Image) (m : Memory) (object frame low n steps a v o : ℕ) (shape
 
   -- the space of a block
   roomy : (x : ℕ) (cells taken zs : List ℕ) → length cells ≡ length m.cells
-      → Takes low (block_size_of v shape) a x cells taken → Filled low n taken zs → Room b a v x (block_size_of v shape) zs
+      → Takes low (block_size_of v shape) a x cells taken → Filled low n taken zs
+      → Room b a v x (block_size_of v shape) zs
   roomy x cells taken zs e t f =
       let w = t.within in
       let c = t.changes.count in
@@ -90,7 +92,8 @@ module _ (im : Image) (m : Memory) (object frame low n steps a v o : ℕ) (shape
 
   -- the middle, from filled cells to those with the block
   leads : (x least most : ℕ) (cells taken ys zs : List ℕ) → length cells ≡ length m.cells → IsLength v shape
-      → Takes low (block_size_of v shape) a x cells taken → Allocates im object frame o x a v shape low n least most cells
+      → Takes low (block_size_of v shape) a x cells taken → Allocates im object frame o x a v shape low n least most
+      cells
       taken → Filled low n cells ys → Filled low n taken zs → Changes low ys zs
       → Leads im (new_mid shape orders) (middle_steps shape (block_size_of v shape) least)
       (middle_steps shape (block_size_of v shape) most) (at ys) (at (filled_words a x (mark_of v shape) zs))
@@ -100,20 +103,24 @@ module _ (im : Image) (m : Memory) (object frame low n steps a v o : ℕ) (shape
       (omega arith) (f.below a a_low ∙ t.nil_before) (roomy x cells taken zs e t g) (finds l)
       (record { leads = record { ahead = alloc.takes ys zs f g c; back = alloc.gives ys zs f g c } })
 
-  pub news : (x least most : ℕ) (taken : List ℕ) → IsLength v shape → Takes low (block_size_of v shape) a x m.cells taken
+  pub news : (x least most : ℕ) (taken : List ℕ) → IsLength v shape
+      → Takes low (block_size_of v shape) a x m.cells taken
       → Allocates im object frame o x a v shape low n least most m.cells taken
       → Kept (filled_words a x (mark_of v shape) taken)
       → Will im p false m (LeavesWithin (record m { cells = filled_words a x (mark_of v shape) taken })
       (steps + (middle_steps shape (block_size_of v shape) least + steps))
       (steps + (middle_steps shape (block_size_of v shape) most + steps)))
   news x least most taken l t alloc kept =
-      (encloses false).leads (filled_words a x (mark_of v shape) taken) (middle_steps shape (block_size_of v shape) least)
-      (middle_steps shape (block_size_of v shape) most) (filled_changes low (block_size_of v shape) a x (mark_of v shape)
+      (encloses false).leads (filled_words a x (mark_of v shape) taken)
+      (middle_steps shape (block_size_of v shape) least)
+      (middle_steps shape (block_size_of v shape) most) (filled_changes low (block_size_of v shape) a x
+      (mark_of v shape)
       m.cells taken inside t (mark_word v shape is_shape l)) kept
       (λ ys ys' f f' c.
       let mark : ℕ = mark_of v shape in
       let zs : List ℕ = emptied a x ys' in
-      let g : Filled low n taken zs = emptied_fills low (block_size_of v shape) a x mark m.cells taken inside t n ys' f' in
+      let g : Filled low n taken zs = emptied_fills low (block_size_of v shape) a x mark m.cells taken inside t n ys' f'
+      in
       let count : length zs ≡ length ys = let q = g.count in let r = f.count in let s = t.changes.count in
       omega arith in
       let change : Changes low ys zs = record {
@@ -126,7 +133,8 @@ module _ (im : Image) (m : Memory) (object frame low n steps a v o : ℕ) (shape
       let there : at (filled_words a x mark zs) ≡ found_memory v a 0 ys' m =
       ap (λ z. at z) (filled_again low (block_size_of v shape) a x mark m.cells taken inside t n ys' f') ∙ same ys' in
       subst (λ z. Will im (new_mid shape orders) false (found_memory v a 0 ys m)
-      (LeavesWithin z (middle_steps shape (block_size_of v shape) least) (middle_steps shape (block_size_of v shape) most)))
+      (LeavesWithin z (middle_steps shape (block_size_of v shape) least)
+      (middle_steps shape (block_size_of v shape) most)))
       there
       (subst (λ z. Will im (new_mid shape orders) false z (LeavesWithin (at (filled_words a x mark zs))
       (middle_steps shape (block_size_of v shape) least) (middle_steps shape (block_size_of v shape) most))) (same ys)
@@ -146,7 +154,8 @@ module _ (im : Image) (m : Memory) (object frame low n steps a v o : ℕ) (shape
       let inside' : low ≤ length given = let q = back.count in omega arith in
       let fe : Filled low n (filled_words a x mark taken) ys = subst (λ z. Filled low n z ys) e f in
       let zs : List ℕ = emptied a x ys in
-      let g : Filled low n taken zs = emptied_fills low (block_size_of v shape) a x mark given taken inside' t n ys fe in
+      let g : Filled low n taken zs = emptied_fills low (block_size_of v shape) a x mark given taken inside' t n ys fe
+      in
       let count : length zs ≡ length ys' = let q = g.count in let r = f'.count in let s = t.changes.count in
       omega arith in
       let change : Changes low ys' zs = record {
@@ -161,7 +170,8 @@ module _ (im : Image) (m : Memory) (object frame low n steps a v o : ℕ) (shape
       subst (λ z. Will im (new_mid shape orders) true z (LeavesWithin (found_memory v a 0 ys' m)
       (middle_steps shape (block_size_of v shape) least) (middle_steps shape (block_size_of v shape) most))) here
       (subst (λ z. Will im (new_mid shape orders) true (at (filled_words a x mark zs))
-      (LeavesWithin z (middle_steps shape (block_size_of v shape) least) (middle_steps shape (block_size_of v shape) most)))
+      (LeavesWithin z (middle_steps shape (block_size_of v shape) least)
+      (middle_steps shape (block_size_of v shape) most)))
       (same ys') on))
 
   -- ---- faults

@@ -19,7 +19,8 @@ use Rattle.refine_heap.proofs.paired_code_laws.Mirrored.{will_mirror}
 use Rattle.static_layout.specs.roopl_semantics.Run.{Run, after_cost, given, give, spend, fault_if, ◌>>=◌}
 use Rattle.static_layout.specs.roopl_semantics.Store.{Value, Word, Nil, Name, OfClass, State, number_of, is_nil}
 use Rattle.static_layout.specs.roopl_semantics.Value.{Cell, read, cell_of, NIL}
-use Rattle.static_layout.specs.roopl_semantics.Elements.{index_elements, own_element, share_array, read_cost, SHARED_ARRAY}
+use Rattle.static_layout.specs.roopl_semantics.Elements.{index_elements, own_element, share_array, read_cost}
+use Rattle.static_layout.specs.roopl_semantics.Elements.{SHARED_ARRAY}
 use Rattle.static_layout.specs.roopl_semantics.Execution.{Setting, Runner, statement, freed, NOT_NIL, COUNT}
 use Rattle.static_layout.specs.roopl_semantics.Execution.{NOT_EMPTY, HEAP_FULL, CLASS_DIFFERS}
 use Rattle.expr_uncompute.specs.refine_form.declared.spot.Spot.{Spot}
@@ -179,7 +180,8 @@ module _ (setting : Setting) (address slot : State → ℕ → ℕ) (R : State �
             leave_meets false m _ (with_new setting class cell st) _ h.after (omega arith)
             ((makes sh).news h.x (setting.limits.heap + 1) (most_steps setting.limits.heap + 7) h.taken tt h.takes
             h.allocates
-            (stay st (with_new setting class cell st) m (filled_words (at st cell) h.x table h.taken) r h.after h.keeps s.0
+            (stay st (with_new setting class cell st) m (filled_words (at st cell) h.x table h.taken) r h.after h.keeps
+            s.0
             s.1))
 
         delete_by : (v : Value) → read st cell ≡ v → sharing st ≡ false

@@ -21,25 +21,30 @@ use Rattle.object_codegen.specs.Code.{nil_place, some_place, load_cells}
 
 -- ---- checks
 
-pub goes_zero : (r code : ℕ) (m : Memory) → memory_reg m r ≡ memory_reg m NOUGHT → Goes (check_equal_cells r NOUGHT code) 2 m m
+pub goes_zero : (r code : ℕ) (m : Memory) → memory_reg m r ≡ memory_reg m NOUGHT
+    → Goes (check_equal_cells r NOUGHT code) 2 m m
 goes_zero r code m e = record {
   ahead = λ im. runs_passes im false (Equal r NOUGHT) code m e;
   back = λ im. runs_passes im true (Equal r NOUGHT) code m e;
 }
 
-pub traps_zero : (r code : ℕ) (m : Memory) → memory_reg m r ≢ memory_reg m NOUGHT → Traps (check_equal_cells r NOUGHT code) 1 code m
+pub traps_zero : (r code : ℕ) (m : Memory) → memory_reg m r ≢ memory_reg m NOUGHT
+    → Traps (check_equal_cells r NOUGHT code) 1 code m
 traps_zero r code m n = record { ahead = λ im. (1, omega arith, runs_fails im false (Equal r NOUGHT) code m n) }
 
-pub goes_differ : (r s code : ℕ) (m : Memory) → memory_reg m r ≢ memory_reg m s → Goes (check_differ_cells r s code) 2 m m
+pub goes_differ : (r s code : ℕ) (m : Memory) → memory_reg m r ≢ memory_reg m s
+    → Goes (check_differ_cells r s code) 2 m m
 goes_differ r s code m n = record {
   ahead = λ im. runs_passes im false (Differ r s) code m n;
   back = λ im. runs_passes im true (Differ r s) code m n;
 }
 
-pub traps_differ : (r s code : ℕ) (m : Memory) → memory_reg m r ≡ memory_reg m s → Traps (check_differ_cells r s code) 1 code m
+pub traps_differ : (r s code : ℕ) (m : Memory) → memory_reg m r ≡ memory_reg m s
+    → Traps (check_differ_cells r s code) 1 code m
 traps_differ r s code m e = record { ahead = λ im. (1, omega arith, runs_fails im false (Differ r s) code m e) }
 
-pub goes_positive : (r code : ℕ) (m : Memory) → is_less 0 (memory_reg m r) ≡ true → Goes (check_positive_cells r code) 2 m m
+pub goes_positive : (r code : ℕ) (m : Memory) → is_less 0 (memory_reg m r) ≡ true
+    → Goes (check_positive_cells r code) 2 m m
 goes_positive r code m h = record {
   ahead = λ im. runs_passes im false (Positive r) code m h;
   back = λ im. runs_passes im true (Positive r) code m h;

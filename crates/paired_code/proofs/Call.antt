@@ -16,11 +16,13 @@ use Rattle.paired_code.specs.declared.part.Symbol.TheVariants.{Enter}
 use Rattle.code_conventions.specs.rpp_words.Words.{sum_of, negated}
 use Rattle.code_conventions.specs.pisa_isa.Machine.{State, effect, stop_at, fetch, stride, moved, Memory}
 use Rattle.paired_code.proofs.Words.{along, turned, toward, first_br, second_br, goes_to, near, far, near_is, far_is}
-use Rattle.paired_code.specs.Machine.{state, Image, memory_reg, memory_with_reg, act, is_routine, is_end, change, Change, Same}
+use Rattle.paired_code.specs.Machine.{state, Image, memory_reg, memory_with_reg, act, is_routine, is_end, change}
+use Rattle.paired_code.specs.Machine.{Change, Same}
 use Rattle.paired_code.specs.Machine.{Enters, Leaves, Level, same, enters, leaves}
 use Rattle.paired_code.specs.Layout.{bool_xor, Frame, spot, frame_address, at, between, resolved, code_line, Routine}
 use Rattle.paired_code.specs.Pieces.{Inside, cell, open_call, in_flight, Path, stay, step, Outcome, Done, Trapped, Bad}
-use Rattle.paired_code.specs.Pieces.{Still, Way, Ends, finishes, traps, bad, still, Will, outcome_after, IsOutcomeOver, near_end}
+use Rattle.paired_code.specs.Pieces.{Still, Way, Ends, finishes, traps, bad, still, Will, outcome_after, IsOutcomeOver}
+use Rattle.paired_code.specs.Pieces.{near_end}
 use Rattle.paired_code.specs.Pieces.{far_end}
 use Rattle.paired_code.specs.Laws.{lead}
 use Rattle.paired_code.proofs.Paths.{append, within_call}
@@ -84,7 +86,8 @@ call_word false w = w
 call_word true w = negated w
 
 call_acts : (kind d : Bool) (w br : ℕ) (pc : ℤ) (m : Memory)
-    → effect (call_cell kind w) (state pc br d m) ≡ state pc (call_word kind (sum_of br (turned d w))) (bool_xor kind d) m
+    → effect (call_cell kind w) (state pc br d m) ≡ state pc (call_word kind (sum_of br (turned d w))) (bool_xor kind d)
+    m
 call_acts false false w br pc m = refl
 call_acts false true w br pc m = refl
 call_acts true false w br pc m = refl
@@ -125,7 +128,8 @@ xor_twice true true = refl
 
 -- ---- in and out
 
-module _ (im : Image) (f : Frame) (d kind : Bool) (a b x p top : ℕ) (lo : a ≤ x) (hi : x < b) (at_p : frame_address f x ≡ pos p)
+module _ (im : Image) (f : Frame) (d kind : Bool) (a b x p top : ℕ) (lo : a ≤ x) (hi : x < b)
+    (at_p : frame_address f x ≡ pos p)
     (caller : fetch im.code (pos p) ≡ Some (call_cell kind (between p (top + 1))))
     (sub : fetch im.code (pos (top + 1)) ≡ Some (swapbr 2)) (known : is_routine im.routines (pos (top + 1)) ≡ true)
     (ne : p ≢ top + 1) (hp : p < 2 ^ 30) (hs : top + 1 < 2 ^ 30) where
@@ -275,7 +279,8 @@ module _ (im : Image) (r top : ℕ) (body : List Symbol) (t : Routine im r top b
     pub leave_path : (m : Memory) → memory_reg m 2 ≡ toward back (top + 1) p
         → Path im f a b 2 1 (at code_line back (near back (top + 1)) m) 0 (at f d (far d x) (memory_with_reg m 2 0))
     leave_path m z = subst (λ y. Path im f a b 2 1 (at code_line y (near y (top + 1)) m) 0
-        (at f d (far d x) (memory_with_reg m 2 0))) eq (go_out im f d kind a b x p top lo hi at_p caller sub t.known ne hp hs
+        (at f d (far d x) (memory_with_reg m 2 0))) eq (go_out im f d kind a b x p top lo hi at_p caller sub t.known ne
+        hp hs
         m (z ∙ sym (ap (λ y. toward y (top + 1) p) eq)))
 
     -- all of it, given what the routine does between
@@ -354,10 +359,12 @@ module _ (im : Image) (r top : ℕ) (body : List Symbol) (t : Routine im r top b
       first : Way im code_line false top (b1 + 1) 1 (top + 1 + 1) (memory_with_reg m 2 (between p (top + 1))) b0
           (memory_with_reg m 2 w)
       first =
-          let e : memory_with_reg (memory_with_reg m 2 (between p (top + 1))) 2 (negated (memory_reg (memory_with_reg m 2 (between p (top + 1))) 2))
+          let e : memory_with_reg (memory_with_reg m 2 (between p (top + 1))) 2
+          (negated (memory_reg (memory_with_reg m 2 (between p (top + 1))) 2))
           ≡ memory_with_reg m 2 w = with_twice m _ _ ∙ ap (λ v. memory_with_reg m 2 (negated v)) (reg_same m _ room)
           ∙ ap (memory_with_reg m 2) (neg_between p (top + 1) ne hp hs') in
-          subst (λ y. Way im code_line false top (b1 + 1) 1 (top + 1 + 1) (memory_with_reg m 2 (between p (top + 1))) b0 y) e
+          subst (λ y. Way im code_line false top (b1 + 1) 1 (top + 1 + 1) (memory_with_reg m 2 (between p (top + 1))) b0
+          y) e
           (negates im r top body t false (memory_with_reg m 2 (between p (top + 1))))
 
       go : (o : Outcome) → Ends im code_line false top (b1 + 1) b0 (memory_with_reg m 2 w) b1 o → Returns w false Q o
@@ -444,7 +451,8 @@ module _ (im : Image) (r top : ℕ) (body : List Symbol) (t : Routine im r top b
         q,
       )
 
-  called : (way : Bool) (eq : bool_xor kind (bool_xor f.flip d) ≡ way) → Will im body way (memory_with_reg m 2 w) (Returns w way Q)
+  called : (way : Bool) (eq : bool_xor kind (bool_xor f.flip d) ≡ way)
+      → Will im body way (memory_with_reg m 2 w) (Returns w way Q)
       → (o : Outcome) × Ends im f d a b (near d x) m (far d x) o × Q o
   called false eq h = let e = h.will code_line b0 t.small t.body_there in along_body eq e.0 e.1 e.2
   called true eq h = let e = h.will code_line b0 t.small t.body_there in back_body eq e.0 e.1 e.2
@@ -496,7 +504,8 @@ will_enter im r top body b d m Q t small room z h = record {
       let hp : p < 2 ^ 30 = omega (arith, c.2) in
       let hs : top + 1 < 2 ^ 30 = (let s = t.small in omega arith) in
       let sne : top + 1 ≢ p = λ e. ne (sym e) in
-      gaps im f d i m Q (called im r top body t f d (bool_xor f.flip b) i (i + 1) i p (omega arith) (omega arith) c.1 caller
+      gaps im f d i m Q (called im r top body t f d (bool_xor f.flip b) i (i + 1) i p (omega arith) (omega arith) c.1
+      caller
       ne hp m z room Q (bool_xor b d) (way_is f.flip b d) (h (between (top + 1) p)
       (between_positive (top + 1) p sne hs hp) (between_small (top + 1) p)));
 }

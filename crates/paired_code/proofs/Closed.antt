@@ -8,13 +8,15 @@ use Rattle.paired_code.specs.declared.part.Symbol.TheVariants.{Own}
 use Rattle.code_conventions.specs.pisa_isa.Machine.{State, Memory}
 use Rattle.paired_code.specs.Machine.{Image, effect_along, memory_reg}
 use Rattle.paired_code.specs.Layout.{bool_xor, code_line, at, Stands}
-use Rattle.paired_code.specs.Pieces.{Outcome, Done, Trapped, Bad, Still, Ends, finishes, traps, bad, still, Will, outcome_after}
+use Rattle.paired_code.specs.Pieces.{Outcome, Done, Trapped, Bad, Still, Ends, finishes, traps, bad, still, Will}
+use Rattle.paired_code.specs.Pieces.{outcome_after}
 use Rattle.paired_code.specs.Pieces.{outcome_around, around_no, to_tail, to_head, near_end, far_end}
 use Rattle.paired_code.specs.Laws.{outcome_of, TestPasses, TestFails, lead}
 use Rattle.paired_code.specs.Literal.{LiteralStays}
 use Rattle.paired_code.specs.Closed as four
 use Rattle.paired_code.specs.Closed.{Shape, Nothing, One, Then, Turned, Choose, Loop, Check, Try, Call, Call_at}
-use Rattle.paired_code.specs.Closed.{cells_of_shape, IsShapeMade, Routines, RoutinesStand, And_next, Left, Back, Back_at}
+use Rattle.paired_code.specs.Closed.{cells_of_shape, IsShapeMade, Routines, RoutinesStand, And_next, Left, Back}
+use Rattle.paired_code.specs.Closed.{Back_at}
 use Rattle.paired_code.specs.Closed.{rounds_fine, fine_with, fine, any, One_of_four, Closed}
 use Rattle.code_conventions.proofs.pisa_isa_laws.Ranges.{imm_word}
 use Rattle.paired_code.proofs.Steps.{has_its_cell}
@@ -105,7 +107,8 @@ module _ (im : Image) (rs : Routines) (there : RoutinesStand im rs) where
         → ((m : Memory) (Q : Outcome → Type 0) → rounds_fine r fp fq j d m Q → turns m (Both Q j)) → (o : Outcome)
         → Both (And_next (λ m2 k2. (memory_reg m2 r ≡ 0) × rounds_fine r fp fq j d m2
         (λ o. Q (outcome_after (k + to_tail d + (k2 + to_head d)) o))) (λ o. Q (outcome_after (k + to_tail d) o))) n o
-        → Next (λ m2 k2. (memory_reg m2 r ≡ 0) × turns m2 (λ o. Both Q (suc j) (outcome_after (k + to_tail d + (k2 + to_head d)) o)))
+        → Next (λ m2 k2. (memory_reg m2 r ≡ 0) × turns m2 (λ o. Both Q (suc j)
+        (outcome_after (k + to_tail d + (k2 + to_head d)) o)))
         (λ o. Both Q (suc j) (outcome_after (k + to_tail d) o)) o
     tail_next j k Q le ih (Done m2 k2) h =
         let c : 1 ≤ to_head d = some d in (
@@ -185,7 +188,8 @@ module _ (im : Image) (rs : Routines) (there : RoutinesStand im rs) where
         ⊎_elim
         (λ (l : (memory_reg m r ≡ 0) × Q (Done m 4)). will_of im _ d m (Done m 4) _ (runs_check_zero im d r code m l.0)
         (l.1, tt))
-        (λ (l : (memory_reg m r ≢ 0) × ((k : ℕ) → k ≤ 4 → Q (Trapped code k))). let k = runs_check_other im d r code m l.0 in
+        (λ (l : (memory_reg m r ≢ 0) × ((k : ℕ) → k ≤ 4 → Q (Trapped code k))). let k = runs_check_other im d r code m
+        l.0 in
         will_of im _ d m (Trapped code k.0) _ k.2 (l.1 k.0 k.1, tt))
         h
     holds (Try t code) g d m Q h =
@@ -196,7 +200,8 @@ module _ (im : Image) (rs : Routines) (there : RoutinesStand im rs) where
         h
     holds (Call r b) g d m Q h =
         will_enter im r (rs.top r) (cells_of_shape (rs.body r)) b d m _ (there.placed r h.0) there.tidy.short h.1 h.2
-        (λ w pw is. will_more im (cells_of_shape (rs.body r)) (bool_xor b d) _ _ _ (λ o k. back_sure n w (bool_xor b d) Q o k)
+        (λ w pw is. will_more im (cells_of_shape (rs.body r)) (bool_xor b d) _ _ _
+        (λ o k. back_sure n w (bool_xor b d) Q o k)
         (calls (rs.body r) (there.made r h.0) (bool_xor b d) _ _ (h.3 w pw is)))
     holds (Call_at a b) g d m Q h =
         will_enter_place im h.0 (rs.top h.0) (cells_of_shape (rs.body h.0)) a b d m _ there.tidy (there.placed h.0 h.1)
@@ -204,7 +209,8 @@ module _ (im : Image) (rs : Routines) (there : RoutinesStand im rs) where
         (λ o k. back_at_sure n a (rs.top h.0 + 1) w (bool_xor b d) Q o k)
         (calls (rs.body h.0) (there.made h.0 h.1) (bool_xor b d) _ _ (h.5 w pw is)))
 
-  pub will_fine : (n : ℕ) (s : Shape) → IsShapeMade s → (d : Bool) (m : Memory) (Q : Outcome → Type 0) → fine rs n s d m Q
+  pub will_fine : (n : ℕ) (s : Shape) → IsShapeMade s → (d : Bool) (m : Memory) (Q : Outcome → Type 0)
+      → fine rs n s d m Q
       → Will im (cells_of_shape s) d m (Both Q n)
   will_fine zero s g d m Q h = will_of im (cells_of_shape s) d m (Still 0) _ (runs_still im (cells_of_shape s) d m)
       (h, omega arith)
@@ -212,7 +218,8 @@ module _ (im : Image) (rs : Routines) (there : RoutinesStand im rs) where
 
 -- ---- in the words of the machine
 
-fewer : (im : Image) (far : ℤ) (d : Bool) (k n e : ℕ) (s : State) → n ≤ k → LiteralStays im far d k e s → LiteralStays im far d n e s
+fewer : (im : Image) (far : ℤ) (d : Bool) (k n e : ℕ) (s : State) → n ≤ k → LiteralStays im far d k e s
+    → LiteralStays im far d n e s
 fewer im far d k zero e s h t = tt
 fewer im far d zero (suc n) e s h t = absurd (omega arith)
 fewer im far d (suc k) (suc n) e s h t = (t.0, t.1, fewer im far d k n _ _ (omega arith) t.2)
@@ -232,7 +239,8 @@ four_of im a b n d m (Still k) (still g) s = four.stays
     (fewer im _ d k n 0 _ s (path_stays im code_line d a b d g.path))
 
 -- the conditions are asked of n rounds and calls, and the run is known for n steps
-pub closed : (im : Image) (rs : Routines) (s : Shape) (a : ℕ) (d : Bool) (m : Memory) (n : ℕ) → RoutinesStand im rs → IsShapeMade s
+pub closed : (im : Image) (rs : Routines) (s : Shape) (a : ℕ) (d : Bool) (m : Memory) (n : ℕ) → RoutinesStand im rs
+    → IsShapeMade s
     → Stands im code_line a (cells_of_shape s) → a + length (cells_of_shape s) < 2 ^ 30 → fine rs n s d m any
     → Closed im s a d m n
 closed im rs s a d m n there g st l h =

@@ -19,8 +19,10 @@ will_first im false p ps m Q w = will_seq im p (in_order false ps) m Q w
 will_first im true p ps m Q w = will_seq_back im (in_order true ps) p m Q w
 
 -- a part, and what comes after it with a count that is known
-pub meets_plus : {A : Type 0} {R : A → Memory → Type 0} {b : Rates} {n y c k : ℕ} {t : RunResult A} {o : Outcome} (x : ℕ)
-    → c ≤ b.counts * k → k ≤ b.steps * c + x → Meets R b (n - c) y t o → Meets R b n (x + y) (plus c t) (outcome_after k o)
+pub meets_plus : {A : Type 0} {R : A → Memory → Type 0} {b : Rates} {n y c k : ℕ} {t : RunResult A} {o : Outcome}
+    (x : ℕ)
+    → c ≤ b.counts * k → k ≤ b.steps * c + x → Meets R b (n - c) y t o
+    → Meets R b n (x + y) (plus c t) (outcome_after k o)
 meets_plus {b = b} {c = c} {k = k} x h l (fine {c = c2} {k = k2} r h2 l2) =
     fine r (omega (arith, mul-add b.counts k k2)) (omega (arith, mul-add b.steps c c2))
 meets_plus {b = b} {c = c} x h l (faults {c = c2} l2) = faults (omega (arith, mul-add b.steps c c2))
@@ -39,7 +41,8 @@ next_of ps x y g s (more h) = more h
 
 -- one part, and the others
 pub meets_first : {A B : Type 0} (im : Image) (d : Bool) (R1 : A → Memory → Type 0) (R2 : B → Memory → Type 0)
-    (b : Rates) (n x y : ℕ) (p : List Symbol) (ps : List (List Symbol)) (m : Memory) (t : RunResult A) (g : ℕ → A → RunResult B)
+    (b : Rates) (n x y : ℕ) (p : List Symbol) (ps : List (List Symbol)) (m : Memory) (t : RunResult A)
+    (g : ℕ → A → RunResult B)
     → Will im p d m (Meets R1 b n x t) → ((c : ℕ) (a : A) (m1 : Memory) → R1 a m1
     → Will im (in_order d ps) d m1 (Meets R2 b (n - c) y (g c a)))
     → Will im (in_order d (p ∷ ps)) d m (Meets R2 b n (x + y) (told_then t g))
@@ -57,7 +60,8 @@ product b k h g = grind arith
 
 -- a silent part that makes steps, and the count of a statement
 meets_tick : {A : Type 0} {R : A → Memory → Type 0} {b : Rates} {n k : ℕ} {t : RunResult A} {o : Outcome} (x x' : ℕ)
-    → 1 ≤ b.counts → 1 ≤ k → k + x ≤ b.steps + x' → Meets R b n x t o → Meets R b (suc n) x' (plus 1 t) (outcome_after k o)
+    → 1 ≤ b.counts → 1 ≤ k → k + x ≤ b.steps + x' → Meets R b n x t o
+    → Meets R b (suc n) x' (plus 1 t) (outcome_after k o)
 meets_tick {b = b} {k = k} x x' hb hk h (fine {c = c} {k = k2} r l u) =
     let one : 1 ≤ b.counts * k = product b.counts k hb hk in
     fine r (omega (arith, one, mul-add b.counts k k2)) (omega (arith, mul-add b.steps 1 c))
@@ -97,7 +101,8 @@ bit true = 1
 
 -- a choice by a register that holds 0 or 1, which both parts keep
 pub meets_branch : {A : Type 0} (im : Image) (d v : Bool) (r : ℕ) (R : Bool → A → Memory → Type 0) (b : Rates) (n x : ℕ)
-    (p q : List Symbol) (m : Memory) (s t : RunResult A) → ((v : Bool) (a : A) (m : Memory) → R v a m → memory_reg m r ≡ bit v)
+    (p q : List Symbol) (m : Memory) (s t : RunResult A) →
+    ((v : Bool) (a : A) (m : Memory) → R v a m → memory_reg m r ≡ bit v)
     → memory_reg m r ≡ bit v → (v ≡ true → Will im p d m (Meets (R true) b n x s))
     → (v ≡ false → Will im q d m (Meets (R false) b n x t))
     → Will im (branch_cells r p q) d m (Meets (R v) b n (6 + x) (chosen v s t))

@@ -15,9 +15,11 @@ use Rattle.paired_code.specs.declared.part.Symbol.TheVariants.{Fixed, Aim, Turn}
 use Rattle.code_conventions.specs.rpp_words.Words.{sum_of, difference_of, negated}
 use Rattle.code_conventions.specs.pisa_isa.Machine.{fetch, stride, Memory}
 use Rattle.paired_code.proofs.Words.{along, toward, near, far, near_is, far_is}
-use Rattle.paired_code.specs.Machine.{state, Image, memory_reg, memory_with_reg, effect_along, is_single, act, is_routine, change}
+use Rattle.paired_code.specs.Machine.{state, Image, memory_reg, memory_with_reg, effect_along, is_single, act}
+use Rattle.paired_code.specs.Machine.{is_routine, change}
 use Rattle.paired_code.specs.Machine.{Same, Enters, Leaves, same, enters, leaves}
-use Rattle.paired_code.specs.Layout.{bool_xor, Frame, spot, frame_address, at, Stands, between, resolved, code_line, Routine, Tidy}
+use Rattle.paired_code.specs.Layout.{bool_xor, Frame, spot, frame_address, at, Stands, between, resolved, code_line}
+use Rattle.paired_code.specs.Layout.{Routine, Tidy}
 use Rattle.paired_code.specs.Layout.{place_register, enter_at_cells}
 use Rattle.paired_code.specs.Pieces.{Inside, cell, open_call, in_flight, Path, Outcome, Done, Trapped, Bad, Still, Way}
 use Rattle.paired_code.specs.Pieces.{Ends, finishes, traps, bad, still, Will, near_end, far_end}
@@ -87,7 +89,8 @@ module _ (p s : ℕ) (ne : p ≢ s) (hp : p < 2 ^ 30) (hs : s < 2 ^ 30) where
       ≡ memory_with_reg m 2 (left_in d (memory_reg m a) s)
   cleared false a m room na =
       let y = sum_of (memory_reg (memory_with_reg m 2 (between s p)) 2) (negated p) in
-      let e : memory_with_reg (memory_with_reg m 2 (between s p)) 2 y ≡ memory_with_reg m 2 (sum_of (between s p) (negated p)) =
+      let e : memory_with_reg (memory_with_reg m 2 (between s p)) 2 y
+      ≡ memory_with_reg m 2 (sum_of (between s p) (negated p)) =
       with_twice m _ _ ∙ ap (λ x. memory_with_reg m 2 (sum_of x (negated p))) (reg_same m _ room) in
       let w = sum_of (between s p) (negated p) in
       let n : sum_of w (memory_reg m a) ≡ difference_of (memory_reg m a) s = omega arith in
@@ -96,7 +99,8 @@ module _ (p s : ℕ) (ne : p ≢ s) (hp : p < 2 ^ 30) (hs : s < 2 ^ 30) where
       ∙ ap (λ x. memory_with_reg m 2 (sum_of w x)) (other_same m a w na) ∙ ap (memory_with_reg m 2) n
   cleared true a m room na =
       let y = sum_of (memory_reg (memory_with_reg m 2 (between p s)) 2) (negated (negated p)) in
-      let e : memory_with_reg (memory_with_reg m 2 (between p s)) 2 y ≡ memory_with_reg m 2 (sum_of (between p s) p) = with_twice m _ _
+      let e : memory_with_reg (memory_with_reg m 2 (between p s)) 2 y ≡ memory_with_reg m 2 (sum_of (between p s) p) =
+      with_twice m _ _
       ∙ ap (λ x. memory_with_reg m 2 (sum_of x (negated (negated p)))) (reg_same m _ room)
       ∙ ap (λ x. memory_with_reg m 2 (sum_of (between p s) x)) twice_p in
       let w = sum_of (between p s) p in
@@ -224,27 +228,32 @@ module _ (im : Image) (f : Frame) (d : Bool) (a i b p top : ℕ) (core : Core im
   aims m room z v = go d refl
     where
       go : (k : Bool) → d ≡ k → Way im f d i b 2 (gap_in d) m (near d mid) (memory_with_reg m 2 (toward dir p s))
-      go false q = subst (λ d. Way im f d i b 2 (gap_in d) m (near d mid) (memory_with_reg m 2 (toward (bool_xor f.flip d) p s)))
+      go false q = subst (λ d. Way im f d i b 2 (gap_in d) m (near d mid)
+          (memory_with_reg m 2 (toward (bool_xor f.flip d) p s)))
           (sym q) (and_then (fixed_way im f false i b (i + 1) (add 2 a) m _ (omega arith) (omega arith) core.add1 refl
           refl refl) (fixed_way im f false i b (i + 1 + 1) (addi 2 (negated p)) _ _ (omega arith) (omega arith)
           core.aim1 refl refl (aimed p s ne hp hs (bool_xor f.flip false) a m room z v)))
-      go true q = subst (λ d. Way im f d i b 2 (gap_in d) m (near d mid) (memory_with_reg m 2 (toward (bool_xor f.flip d) p s)))
+      go true q = subst (λ d. Way im f d i b 2 (gap_in d) m (near d mid)
+          (memory_with_reg m 2 (toward (bool_xor f.flip d) p s)))
           (sym q) (and_then (fixed_way im f true i b (i + 1 + 1 + 1 + 1 + 1) (add 2 a) m _ (omega arith) (omega arith)
           core.add2 refl refl refl) (fixed_way im f true i b (i + 1 + 1 + 1 + 1) (addi 2 (negated p)) _ _
           (omega arith) (omega arith) core.aim2 refl refl (aimed p s ne hp hs (bool_xor f.flip true) a m room z v)))
 
-  clears : (m : Memory) → 2 < length m.regs → Way im f d i b 2 (far d mid) (memory_with_reg m 2 (toward dir s p)) (gap_out d)
+  clears : (m : Memory) → 2 < length m.regs → Way im f d i b 2 (far d mid) (memory_with_reg m 2 (toward dir s p))
+      (gap_out d)
       (memory_with_reg m 2 (left_in dir (memory_reg m a) s))
   clears m room = go d refl
     where
       go : (k : Bool) → d ≡ k → Way im f d i b 2 (far d mid) (memory_with_reg m 2 (toward dir s p)) (gap_out d)
           (memory_with_reg m 2 (left_in dir (memory_reg m a) s))
-      go false q = subst (λ d. Way im f d i b 2 (far d mid) (memory_with_reg m 2 (toward (bool_xor f.flip d) s p)) (gap_out d)
+      go false q = subst (λ d. Way im f d i b 2 (far d mid) (memory_with_reg m 2 (toward (bool_xor f.flip d) s p))
+          (gap_out d)
           (memory_with_reg m 2 (left_in (bool_xor f.flip d) (memory_reg m a) s))) (sym q)
           (and_then (fixed_way im f false i b (i + 1 + 1 + 1 + 1) (addi 2 (negated p)) _ _ (omega arith) (omega arith)
           core.aim2 refl refl refl) (fixed_way im f false i b (i + 1 + 1 + 1 + 1 + 1) (add 2 a) _ _ (omega arith)
           (omega arith) core.add2 refl refl (cleared p s ne hp hs (bool_xor f.flip false) a m room na)))
-      go true q = subst (λ d. Way im f d i b 2 (far d mid) (memory_with_reg m 2 (toward (bool_xor f.flip d) s p)) (gap_out d)
+      go true q = subst (λ d. Way im f d i b 2 (far d mid) (memory_with_reg m 2 (toward (bool_xor f.flip d) s p))
+          (gap_out d)
           (memory_with_reg m 2 (left_in (bool_xor f.flip d) (memory_reg m a) s))) (sym q)
           (and_then (fixed_way im f true i b (i + 1 + 1) (addi 2 (negated p)) _ _ (omega arith) (omega arith) core.aim1
           refl refl refl) (fixed_way im f true i b (i + 1) (add 2 a) _ _ (omega arith) (omega arith) core.add1 refl
@@ -257,7 +266,8 @@ module _ (im : Image) (f : Frame) (d : Bool) (a i b p top : ℕ) (core : Core im
       let s0 = state (pos p) 0 dir n in
       let s1 = state (pos s) (toward dir p s) dir (memory_with_reg m 2 0) in
       let s2 = at code_line dir (far dir s) n in
-      let e1 : act (swapbr 2) s0 ≡ s1 = acts_to (swapbr 2) (pos p) (pos s) 0 (toward dir p s) dir dir n (memory_with_reg m 2 0)
+      let e1 : act (swapbr 2) s0 ≡ s1 = acts_to (swapbr 2) (pos p) (pos s) 0 (toward dir p s) dir dir n
+      (memory_with_reg m 2 0)
       (swap_acts dir 0 (pos p) n ∙ ap (λ v. state (pos p) v dir (memory_with_reg n 2 0)) (reg_same m _ room)
       ∙ ap (λ (v : Memory). state (pos p) (toward dir p s) dir v) (with_twice m _ 0)) (line_to dir p s ne hp hs)
       in
@@ -370,10 +380,12 @@ module _ (im : Image) (r top : ℕ) (body : List Symbol) (t : Routine im r top b
       first : Way im code_line false top (b1 + 1) 1 (top + 1 + 1) (memory_with_reg m 2 (between p (top + 1))) b0
           (memory_with_reg m 2 w)
       first =
-          let e : memory_with_reg (memory_with_reg m 2 (between p (top + 1))) 2 (negated (memory_reg (memory_with_reg m 2 (between p (top + 1))) 2))
+          let e : memory_with_reg (memory_with_reg m 2 (between p (top + 1))) 2
+          (negated (memory_reg (memory_with_reg m 2 (between p (top + 1))) 2))
           ≡ memory_with_reg m 2 w = with_twice m _ _ ∙ ap (λ v. memory_with_reg m 2 (negated v)) (reg_same m _ room)
           ∙ ap (memory_with_reg m 2) (neg_between p (top + 1) ne hp low_s) in
-          subst (λ y. Way im code_line false top (b1 + 1) 1 (top + 1 + 1) (memory_with_reg m 2 (between p (top + 1))) b0 y) e
+          subst (λ y. Way im code_line false top (b1 + 1) 1 (top + 1 + 1) (memory_with_reg m 2 (between p (top + 1))) b0
+          y) e
           (negates im r top body t false (memory_with_reg m 2 (between p (top + 1))))
 
       go : (o : Outcome) → Ends im code_line false top (b1 + 1) b0 (memory_with_reg m 2 w) b1 o
@@ -439,7 +451,8 @@ module _ (im : Image) (r top : ℕ) (body : List Symbol) (t : Routine im r top b
           let wide : 2 < length m1.regs = there m1.regs 2 w q.0 (between_positive (top + 1) p sne low_s hp) in
           let m2 = memory_with_reg m1 2 (negated (memory_reg m1 2)) in
           let same2 : memory_reg m2 2 ≡ negated (memory_reg m1 2) = reg_same m1 _ wide in
-          let turns : memory_reg m2 2 ≡ between p (top + 1) = same2 ∙ ap negated q.0 ∙ neg_between (top + 1) p sne low_s hp in
+          let turns : memory_reg m2 2 ≡ between p (top + 1) = same2 ∙ ap negated q.0
+          ∙ neg_between (top + 1) p sne low_s hp in
           let keeps : memory_reg m2 a ≡ memory_reg m1 a = other_same m1 a _ na in
           let wide2 : 2 < length m2.regs = there m2.regs 2 (between p (top + 1)) turns
           (between_positive p (top + 1) ne hp low_s) in
@@ -535,7 +548,8 @@ way_turned true false true e = refl
 way_turned true true d e = absurd (no_false e)
 
 module _ (im : Image) (r top : ℕ) (body : List Symbol) (t : Routine im r top body) (tidy : Tidy im) (a : ℕ) (na : a ≢ 2)
-    (m : Memory) (room : 2 < length m.regs) (z : memory_reg m 2 ≡ 0) (v : memory_reg m a ≡ top + 1) (Q : Outcome → Type 0) (f : Frame)
+    (m : Memory) (room : 2 < length m.regs) (z : memory_reg m 2 ≡ 0) (v : memory_reg m a ≡ top + 1)
+    (Q : Outcome → Type 0) (f : Frame)
     (i : ℕ) (b : Bool) (l : i + 7 < 2 ^ 30) (st : Stands im f i (enter_at_cells a b)) where
   abbrev end : ℕ
   end = i + 1 + 1 + 1 + 1 + 1 + 1 + 1
@@ -564,7 +578,8 @@ module _ (im : Image) (r top : ℕ) (body : List Symbol) (t : Routine im r top b
   ne e = no_true (sym t.known ∙ subst (λ n. is_routine im.routines (pos n) ≡ false) e core.plain)
 
   -- in and out without a turn
-  straight : (d : Bool) → bool_xor f.flip b ≡ false → Will im body (bool_xor f.flip d) (memory_with_reg m 2 (between (top + 1) p))
+  straight : (d : Bool) → bool_xor f.flip b ≡ false → Will im body (bool_xor f.flip d)
+      (memory_with_reg m 2 (between (top + 1) p))
       (Returns_any a (top + 1) (between (top + 1) p) (bool_xor f.flip d) Q)
       → (o : Outcome) × Ends im f d i end (near_end d i end) m (far_end d i end) o × Q o
   straight false k h =
@@ -577,7 +592,8 @@ module _ (im : Image) (r top : ℕ) (body : List Symbol) (t : Routine im r top b
       let n = memory_with_reg m1 2 (left_in (bool_xor f.flip false) (memory_reg m1 a) (top + 1)) in
       let closing : Way im f false i end 1 last n end n = fixed_way im f false i end last (addi 2 0) n n (omega arith)
       (omega arith) (st.1.1.1.1.1.1.0 ∙ ap Some (idle im f.flip b false true (frame_address f last) k)) refl refl
-      (no_change (bool_xor f.flip false) n _ (reg_same m1 _ wide) (left_word (bool_xor f.flip false) (memory_reg m1 a) (top + 1))) in
+      (no_change (bool_xor f.flip false) n _ (reg_same m1 _ wide)
+      (left_word (bool_xor f.flip false) (memory_reg m1 a) (top + 1))) in
       append (swaps_out im f false a i end p top core refl sub t.known ne hp hs na m1 wide e1) closing.path) h
   straight true k h =
       let first : Way im f true i end 1 end m last m = fixed_way im f true i end last (addi 2 0) m m (omega arith)
@@ -589,7 +605,8 @@ module _ (im : Image) (r top : ℕ) (body : List Symbol) (t : Routine im r top b
       let n = memory_with_reg m1 2 (left_in (bool_xor f.flip true) (memory_reg m1 a) (top + 1)) in
       let closing : Way im f true i end 1 (i + 1) n i n = fixed_way im f true i end i (addi 2 0) n n (omega arith)
       (omega arith) (st.0 ∙ ap Some (idle im f.flip b true false (frame_address f i) k)) refl refl
-      (no_change (bool_xor f.flip true) n _ (reg_same m1 _ wide) (left_word (bool_xor f.flip true) (memory_reg m1 a) (top + 1))) in
+      (no_change (bool_xor f.flip true) n _ (reg_same m1 _ wide)
+      (left_word (bool_xor f.flip true) (memory_reg m1 a) (top + 1))) in
       append (swaps_out im f true a i end p top core refl sub t.known ne hp hs na m1 wide e1) closing.path) h
 
   first_turn : bool_xor f.flip b ≡ true → Has im f i (rbra (between i last))
@@ -600,12 +617,14 @@ module _ (im : Image) (r top : ℕ) (body : List Symbol) (t : Routine im r top b
   last_turn : bool_xor f.flip b ≡ true → Has im f last (bra (between last i))
   last_turn k = let e : between 6 0 ≡ between last i = between_same 6 0 last i (omega arith) (omega arith) (omega arith)
       (omega arith) (omega arith) in
-      subst (λ n. Has im f last (bra n)) e (st.1.1.1.1.1.1.0 ∙ ap Some (turns_last im f.flip b (frame_address f last) k))
+      subst (λ n. Has im f last (bra n)) e (st.1.1.1.1.1.1.0
+      ∙ ap Some (turns_last im f.flip b (frame_address f last) k))
 
   apart : i ≢ last
   apart e = omega arith
 
-  turned : (d : Bool) → bool_xor f.flip b ≡ true → Will im body (bool_xor f.flip (not d)) (memory_with_reg m 2 (between (top + 1) p))
+  turned : (d : Bool) → bool_xor f.flip b ≡ true → Will im body (bool_xor f.flip (not d))
+      (memory_with_reg m 2 (between (top + 1) p))
       (Returns_any a (top + 1) (between (top + 1) p) (bool_xor f.flip (not d)) Q)
       → (o : Outcome) × Ends im f d i end (near_end d i end) m (far_end d i end) o × Q o
   turned false k h =
@@ -638,7 +657,8 @@ module _ (im : Image) (r top : ℕ) (body : List Symbol) (t : Routine im r top b
           (Returns_any a (top + 1) (between (top + 1) p) (bool_xor b d) Q)
       given = h (between (top + 1) p) (between_positive (top + 1) p (λ e. ne (sym e)) hs hp) (between_small (top + 1) p)
 
-      go : (k : Bool) → bool_xor f.flip b ≡ k → (o : Outcome) × Ends im f d i end (near_end d i end) m (far_end d i end) o
+      go : (k : Bool) → bool_xor f.flip b ≡ k → (o : Outcome)
+          × Ends im f d i end (near_end d i end) m (far_end d i end) o
           × Q o
       go false k = straight d k (subst (λ y. Will im body y (memory_with_reg m 2 (between (top + 1) p))
           (Returns_any a (top + 1) (between (top + 1) p) y Q)) (sym (way_kept f.flip b d k)) given)
@@ -679,8 +699,10 @@ other_register a h = let e : nat_eq a 2 ≡ false = grind (arith, nat_tests) in 
 
 -- by the register that is asked for
 pub will_enter_place : (im : Image) (r top : ℕ) (body : List Symbol) (a : ℕ) (b d : Bool) (m : Memory)
-    (Q : Outcome → Type 0) → Tidy im → Routine im r top body → 2 < length m.regs → memory_reg m 2 ≡ 0 → memory_reg m a ≡ top + 1
-    → ((w : ℕ) → 0 < w → w < 2 ^ 32 → Will im body (bool_xor b d) (memory_with_reg m 2 w) (Returns_any a (top + 1) w (bool_xor b d) Q))
+    (Q : Outcome → Type 0) → Tidy im → Routine im r top body → 2 < length m.regs → memory_reg m 2 ≡ 0
+    → memory_reg m a ≡ top + 1
+    → ((w : ℕ) → 0 < w → w < 2 ^ 32 → Will im body (bool_xor b d) (memory_with_reg m 2 w)
+    (Returns_any a (top + 1) w (bool_xor b d) Q))
     → Will im (enter_at_cells (place_register a) b) d m Q
 will_enter_place im r top body a b d m Q tidy t room z v h =
     let na : a ≢ 2 = not_two m a top z v in

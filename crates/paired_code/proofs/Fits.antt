@@ -89,7 +89,8 @@ fit_fork r x y p h k = (
   (inner_lt r (between x y) h (word_between x y), k),
 )
 
-pub fit_branch : (r : ℕ) (p q : List Symbol) → r < 32 → AllSymbolsFit p → AllSymbolsFit q → AllSymbolsFit (branch_cells r p q)
+pub fit_branch : (r : ℕ) (p q : List Symbol) → r < 32 → AllSymbolsFit p → AllSymbolsFit q
+    → AllSymbolsFit (branch_cells r p q)
 fit_branch r p q h hp hq =
     let last = fork r (between 0 3) (Own (bra (between (5 + length p) 0)) ∷ fork r (between 3 0) []) in
     let most = Own (bra (between 0 (5 + length p))) ∷ fork r (between (3 + length q) 0) (p ++ last) in
@@ -101,7 +102,8 @@ fit_branch r p q h hp hq =
     ) in
     fit_fork r 0 (3 + length q) (q ++ most) h (fit_append q most hq k1)
 
-pub fit_loop : (r : ℕ) (p q : List Symbol) → r < 32 → AllSymbolsFit p → AllSymbolsFit q → AllSymbolsFit (loop_cells r p q)
+pub fit_loop : (r : ℕ) (p q : List Symbol) → r < 32 → AllSymbolsFit p → AllSymbolsFit q
+    → AllSymbolsFit (loop_cells r p q)
 fit_loop r p q h hp hq =
     let n = 5 + length q + length p in
     let last = fork r (between 0 3) (Own (bra (between n 0)) ∷ fork r (between 3 0) []) in

@@ -7,7 +7,8 @@ use Rattle.paired_code.specs.declared.part.Symbol.{Symbol}
 use Rattle.paired_code.specs.declared.part.Symbol.TheVariants.{Own, Enter, Fixed, Aim, Turn}
 use Rattle.code_conventions.specs.pisa_isa.Machine.{State, fetch, Memory}
 use Rattle.paired_code.specs.Machine.{state, Image}
-use Rattle.paired_code.specs.Layout.{bool_xor, Frame, spot, frame_address, at, base, resolved, Stands, inverse_sym, mirror_cells}
+use Rattle.paired_code.specs.Layout.{bool_xor, Frame, spot, frame_address, at, base, resolved, Stands, inverse_sym}
+use Rattle.paired_code.specs.Layout.{mirror_cells}
 use Rattle.paired_code.specs.Pieces.{Inside, cell, open_call, in_flight, Path, stay, step, Outcome, Ends, finishes}
 use Rattle.paired_code.specs.Pieces.{traps, bad, still, Will, near_end, far_end}
 use Rattle.paired_code.proofs.Steps.{inverse_twice}
@@ -28,7 +29,8 @@ frame flip b = record { flip = flip; base = b }
 abbrev other : Bool → ℤ → ℕ → Frame
 other flip b n = frame (not flip) (turned_base flip b n)
 
-other_place : (flip : Bool) (b : ℤ) (n i j : ℕ) → i + j + 1 ≡ n → frame_address (other flip b n) i ≡ frame_address (frame flip b) j
+other_place : (flip : Bool) (b : ℤ) (n i j : ℕ) → i + j + 1 ≡ n
+    → frame_address (other flip b n) i ≡ frame_address (frame flip b) j
 other_place false b n i j e = omega (arith, ints)
 other_place true b n i j e = omega (arith, ints)
 
@@ -72,7 +74,8 @@ stands_other im flip b (c ∷ p) i i' h =
     let same : frame_address (other flip b n) i' ≡ frame_address (frame flip b) (i + length (mirror_cells p)) =
     other_place flip b n i' (i + length (mirror_cells p)) e in
     let k : i + (i' + 1) + length p ≡ n = omega arith in
-    let there = last ∙ ap Some (resolved_other im flip (frame_address (frame flip b) (i + length (mirror_cells p))) c) in
+    let there = last ∙ ap Some (resolved_other im flip (frame_address (frame flip b) (i + length (mirror_cells p))) c)
+    in
     let P : ℤ → Type 0 = λ z. fetch im.code z ≡ Some (resolved im (not flip) z c) in (
       subst P (sym same) there,
       subst (λ z. Stands im (other flip b z) (i' + 1) p) k

@@ -4,8 +4,10 @@ use Rattle.code_conventions.specs.pisa_isa.Machine.{Memory}
 use Rattle.paired_code.specs.declared.part.Symbol.{Symbol}
 use Rattle.paired_code.specs.declared.part.Symbol.TheVariants.{Enter}
 use Rattle.paired_code.specs.Machine.{Image, memory_with_reg}
-use Rattle.paired_code.specs.Layout.{bool_xor, loop_cells, check_cells, Test, test_cells, place_register, enter_at_cells}
-use Rattle.paired_code.specs.Pieces.{Outcome, Done, Trapped, Bad, Still, Ends, outcome_after, IsOutcomeOver, to_tail, to_head}
+use Rattle.paired_code.specs.Layout.{bool_xor, loop_cells, check_cells, Test, test_cells, place_register}
+use Rattle.paired_code.specs.Layout.{enter_at_cells}
+use Rattle.paired_code.specs.Pieces.{Outcome, Done, Trapped, Bad, Still, Ends, outcome_after, IsOutcomeOver, to_tail}
+use Rattle.paired_code.specs.Pieces.{to_head}
 use Rattle.paired_code.specs.Pieces.{near_end, far_end}
 use Rattle.paired_code.specs.Laws.{Rounds, pause, ends_in_head, leaves, ends_in_tail, again, WhileLaw, CheckLaw}
 use Rattle.paired_code.specs.Laws.{BranchTestLaw, EnterLaw, EnterAtLaw, came_back, called, called_at}
@@ -52,7 +54,8 @@ rounds_turn {im = im} {r = r} {head = head} {tail = tail} {d = d} {m = m}
 pub while_law : (r : ℕ) (head tail : List Symbol) → WhileLaw r head tail (loop_cells r head tail)
 while_law r head tail = record {
   turns = λ im d m o nz h. runs_of im (loop_cells r head tail) d m (outcome_after 3 o)
-      (will_loop im d r head tail m _ nz (turns_more im d r head tail m _ _ (λ x e. ap (outcome_after 3) e) (rounds_turn h)));
+      (will_loop im d r head tail m _ nz (turns_more im d r head tail m _ _ (λ x e. ap (outcome_after 3) e)
+      (rounds_turn h)));
 }
 
 pub check_law : (r code : ℕ) → CheckLaw r code (check_cells r code)

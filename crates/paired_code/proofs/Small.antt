@@ -207,7 +207,8 @@ runs_stopping im c d m h t = record { run = λ f i l st. go f i st d }
     go f i st true = bad (halts_here f i st true)
 
 single_out : (im : Image) (c : Cell) (d : Bool) (m : Memory) (t : Bool) → is_single c ≡ true → c.imm < 2 ^ 32
-    → has_its_cell c m ≡ t → Runs im (Own c ∷ []) d m (if t then Done (effect_along d c m) 1 else Bad (memory_reg m c.b) 0)
+    → has_its_cell c m ≡ t → Runs im (Own c ∷ []) d m (if t then Done (effect_along d c m) 1 else Bad (memory_reg m c.b)
+    0)
 single_out im c d m true h w e = runs_acting im c d m h w e
 single_out im c d m false h w e = runs_stopping im c d m h e
 

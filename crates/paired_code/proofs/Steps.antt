@@ -6,12 +6,14 @@ use Rattle.std.proofs.lemmas.Bool.Decides.{nat_tests}
 use Rattle.code_conventions.specs.rpp_words.Words.{sum_of}
 use Rattle.code_conventions.specs.pisa_isa.declared.cell.Op.{Op}
 use Rattle.code_conventions.specs.pisa_isa.declared.cell.Op.TheVariants.{Add, Addi, Exch, Swapbr, Bra, Rbra, Beq}
-use Rattle.code_conventions.specs.pisa_isa.declared.cell.Op.TheVariants.{Bne, Bgez, Bgtz, Blez, Bltz, Start, Finish, DataWord}
+use Rattle.code_conventions.specs.pisa_isa.declared.cell.Op.TheVariants.{Bne, Bgez, Bgtz, Blez, Bltz, Start, Finish}
+use Rattle.code_conventions.specs.pisa_isa.declared.cell.Op.TheVariants.{DataWord}
 use Rattle.code_conventions.specs.pisa_isa.declared.cell.Cell.{Cell}
 use Rattle.code_conventions.specs.pisa_isa.Table.{inverse_op, inverse_word, inverse_of}
 use Rattle.code_conventions.specs.pisa_isa.declared.machine.Stop.{Stop}
 use Rattle.code_conventions.specs.pisa_isa.declared.machine.Stop.TheVariants.{BadAddress}
-use Rattle.code_conventions.specs.pisa_isa.Machine.{State, row, row_of, faced, effect, moved, stride, fetch, stop_at, stop_in, has_cell}
+use Rattle.code_conventions.specs.pisa_isa.Machine.{State, row, row_of, faced, effect, moved, stride, fetch, stop_at}
+use Rattle.code_conventions.specs.pisa_isa.Machine.{stop_in, has_cell}
 use Rattle.code_conventions.specs.pisa_isa.Machine.{Memory, memory_of}
 use Rattle.code_conventions.proofs.pisa_isa_laws.Mirror.{inverse_op-twice, inverse_word-twice}
 use Rattle.code_conventions.specs.Cells.{bra}
@@ -53,9 +55,11 @@ moved_is pc pc' br k m e = ap (λ z. state z br k m) (place_along k pc br ∙ e)
 
 -- one step from a cell's place
 one : (im : Image) (f : Frame) (a b x : ℕ) (c : Cell) (br br' : ℕ) (k : Bool) (m m' : Memory) (pc' : ℤ) → a ≤ x → x < b
-    → fetch im.code (frame_address f x) ≡ Some c → stop_at (Some c) (state (frame_address f x) br k m) ≡ None → is_end c ≡ false
+    → fetch im.code (frame_address f x) ≡ Some c → stop_at (Some c) (state (frame_address f x) br k m) ≡ None
+    → is_end c ≡ false
     → change im.routines c (state (frame_address f x) br k m) ≡ Same
-    → effect c (state (frame_address f x) br k m) ≡ state (frame_address f x) br' k m' → frame_address f x +ℤ along k (stride br') ≡ pc'
+    → effect c (state (frame_address f x) br k m) ≡ state (frame_address f x) br' k m'
+    → frame_address f x +ℤ along k (stride br') ≡ pc'
     → Path im f a b 1 0 (state (frame_address f x) br k m) 0 (state pc' br' k m')
 one im f a b x c br br' k m m' pc' lo hi h n v l e1 e2 =
     let s = state (frame_address f x) br k m in
@@ -67,7 +71,8 @@ pub calm_way : (im : Image) (f : Frame) (d : Bool) (a b x : ℕ) (c : Cell) (m m
     → Calm f.flip d c m m' → Way im f d a b 1 (near d x) m (far d x) m'
 calm_way im f d a b x c m m' lo hi h q =
     let p = one im f a b x (oriented f.flip c) 0 0 (bool_xor f.flip d) m m' (spot f.flip d f.base (far d x)) lo hi h
-    (q.goes (frame_address f x)) q.own (q.level im.routines (frame_address f x)) (q.acts (frame_address f x)) (far_is f.flip d f.base x) in
+    (q.goes (frame_address f x)) q.own (q.level im.routines (frame_address f x)) (q.acts (frame_address f x))
+    (far_is f.flip d f.base x) in
     record {
       path = subst (λ z. Path im f a b 1 0 (state z 0 (bool_xor f.flip d) m) 0 (at f d (far d x) m'))
           (sym (near_is f.flip d f.base x)) p;
@@ -76,10 +81,12 @@ calm_way im f d a b x c m m' lo hi h q =
 -- a branch that is taken, as one step from its place
 taken : (im : Image) (f : Frame) (a b x : ℕ) (c : Cell) (br w br' : ℕ) (k : Bool) (m : Memory) (pc' : ℤ) → a ≤ x → x < b
     → Has im f x c → Takes f.flip c m w → sum_of br (turned k (flipped f.flip w)) ≡ br'
-    → frame_address f x +ℤ along k (stride br') ≡ pc' → Path im f a b 1 0 (state (frame_address f x) br k m) 0 (state pc' br' k m)
+    → frame_address f x +ℤ along k (stride br') ≡ pc' → Path im f a b 1 0 (state (frame_address f x) br k m) 0
+    (state pc' br' k m)
 taken im f a b x c br w br' k m pc' lo hi h q e g =
     one im f a b x (oriented f.flip c) br br' k m m pc' lo hi h (q.goes (frame_address f x) br k) q.own
-    (q.level im.routines (frame_address f x) br k) (q.acts (frame_address f x) br k ∙ ap (λ z. state (frame_address f x) z k m) e) g
+    (q.level im.routines (frame_address f x) br k) (q.acts (frame_address f x) br k
+    ∙ ap (λ z. state (frame_address f x) z k m) e) g
 
 pub hop_way : (im : Image) (f : Frame) (d : Bool) (a b x y : ℕ) (c c' : Cell) (m : Memory) → x ≢ y → x < 2 ^ 30
     → y < 2 ^ 30 → a ≤ x → x < b → a ≤ y → y < b → Has im f x c → Has im f y c' → Takes f.flip c m (between x y)
@@ -105,7 +112,8 @@ leap im f d a b x y c m ne hx hy lx ux h q =
     let w = toward d x y in
     let p1 = taken im f a b x c 0 (between x y) w k m (frame_address f y) lx ux h q (first_br f.flip d x y ne hx hy)
     (goes_to f.flip d f.base x y ne hx hy) in
-    subst (λ z. Path im f a b 1 0 (state z 0 k m) 0 (state (frame_address f y) w k m)) (sym (near_is f.flip d f.base x)) p1
+    subst (λ z. Path im f a b 1 0 (state z 0 k m) 0 (state (frame_address f y) w k m)) (sym (near_is f.flip d f.base x))
+    p1
 
 -- ---- the branches
 
@@ -134,14 +142,16 @@ lt_acts false true r m w t h pc br = ap (λ t. state pc (after_test t br (turned
 lt_acts true false r m w t h pc br = ap (λ t. state pc (after_test t br (flipped true w)) false m) h
 lt_acts true true r m w t h pc br = ap (λ t. state pc (after_test t br (turned true (flipped true w))) true m) h
 
-eq_acts : (flip k : Bool) (r s : ℕ) (m : Memory) (w : ℕ) (t : Bool) → nat_eq (memory_reg m r) (memory_reg m s) ≡ t → (pc : ℤ) (br : ℕ)
+eq_acts : (flip k : Bool) (r s : ℕ) (m : Memory) (w : ℕ) (t : Bool) → nat_eq (memory_reg m r) (memory_reg m s) ≡ t
+    → (pc : ℤ) (br : ℕ)
     → effect (oriented flip (beq r s w)) (state pc br k m) ≡ state pc (after_test t br (turned k (flipped flip w))) k m
 eq_acts false false r s m w t h pc br = ap (λ t. state pc (after_test t br w) false m) h
 eq_acts false true r s m w t h pc br = ap (λ t. state pc (after_test t br (turned true w)) true m) h
 eq_acts true false r s m w t h pc br = ap (λ t. state pc (after_test t br (flipped true w)) false m) h
 eq_acts true true r s m w t h pc br = ap (λ t. state pc (after_test t br (turned true (flipped true w))) true m) h
 
-ne_acts : (flip k : Bool) (r s : ℕ) (m : Memory) (w : ℕ) (t : Bool) → nat_eq (memory_reg m r) (memory_reg m s) ≡ t → (pc : ℤ) (br : ℕ)
+ne_acts : (flip k : Bool) (r s : ℕ) (m : Memory) (w : ℕ) (t : Bool) → nat_eq (memory_reg m r) (memory_reg m s) ≡ t
+    → (pc : ℤ) (br : ℕ)
     → effect (oriented flip (bne r s w)) (state pc br k m)
     ≡ state pc (after_test (not t) br (turned k (flipped flip w))) k m
 ne_acts false false r s m w t h pc br = ap (λ t. state pc (after_test (not t) br w) false m) h
@@ -164,7 +174,8 @@ takes_bra true m w = record {
   level = λ rs pc b k. refl;
 }
 
-pub takes_gt : (flip : Bool) (r : ℕ) (m : Memory) (w : ℕ) → is_positive (memory_reg m r) ≡ true → Takes flip (bgtz r w) m w
+pub takes_gt : (flip : Bool) (r : ℕ) (m : Memory) (w : ℕ) → is_positive (memory_reg m r) ≡ true
+    → Takes flip (bgtz r w) m w
 takes_gt false r m w h = record {
   acts = λ pc b k. gt_acts false k r m w true h pc b;
   own = refl;
@@ -178,7 +189,8 @@ takes_gt true r m w h = record {
   level = λ rs pc b k. refl;
 }
 
-pub takes_lt : (flip : Bool) (r : ℕ) (m : Memory) (w : ℕ) → is_negative (memory_reg m r) ≡ true → Takes flip (bltz r w) m w
+pub takes_lt : (flip : Bool) (r : ℕ) (m : Memory) (w : ℕ) → is_negative (memory_reg m r) ≡ true
+    → Takes flip (bltz r w) m w
 takes_lt false r m w h = record {
   acts = λ pc b k. lt_acts false k r m w true h pc b;
   own = refl;
@@ -252,7 +264,8 @@ calm_ne true d r s m w h = record {
   level = λ rs pc. refl;
 }
 
-pub calm_gt : (flip d : Bool) (r : ℕ) (m : Memory) (w : ℕ) → is_positive (memory_reg m r) ≡ false → Calm flip d (bgtz r w) m m
+pub calm_gt : (flip d : Bool) (r : ℕ) (m : Memory) (w : ℕ) → is_positive (memory_reg m r) ≡ false
+    → Calm flip d (bgtz r w) m m
 calm_gt false d r m w h = record {
   acts = λ pc. gt_acts false (bool_xor false d) r m w false h pc 0;
   own = refl;
@@ -266,7 +279,8 @@ calm_gt true d r m w h = record {
   level = λ rs pc. refl;
 }
 
-pub calm_lt : (flip d : Bool) (r : ℕ) (m : Memory) (w : ℕ) → is_negative (memory_reg m r) ≡ false → Calm flip d (bltz r w) m m
+pub calm_lt : (flip d : Bool) (r : ℕ) (m : Memory) (w : ℕ) → is_negative (memory_reg m r) ≡ false
+    → Calm flip d (bltz r w) m m
 calm_lt false d r m w h = record {
   acts = λ pc. lt_acts false (bool_xor false d) r m w false h pc 0;
   own = refl;

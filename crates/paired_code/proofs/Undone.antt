@@ -8,11 +8,13 @@ use Rattle.std.specs.Prelude.{not, if◌then◌else◌}
 use Rattle.std.specs.List.{All}
 use Rattle.code_conventions.specs.rpp_words.Words.{IsWord}
 use Rattle.code_conventions.specs.pisa_isa.declared.cell.Op.{Op}
-use Rattle.code_conventions.specs.pisa_isa.declared.cell.Op.TheVariants.{Exch, Swapbr, Bra, Rbra, Beq, Bne, Bgez, Bgtz, Blez, Bltz}
+use Rattle.code_conventions.specs.pisa_isa.declared.cell.Op.TheVariants.{Exch, Swapbr, Bra, Rbra, Beq, Bne, Bgez, Bgtz}
+use Rattle.code_conventions.specs.pisa_isa.declared.cell.Op.TheVariants.{Blez, Bltz}
 use Rattle.code_conventions.specs.pisa_isa.declared.cell.Op.TheVariants.{Start, Finish, DataWord}
 use Rattle.code_conventions.specs.pisa_isa.declared.cell.Cell.{Cell}
 use Rattle.code_conventions.specs.pisa_isa.Table.{IsCell, inverse_op, b_is_source, new_value}
-use Rattle.code_conventions.specs.pisa_isa.Machine.{State, turned_state, effect, row, row_of, faced, has_cell, Memory, memory_of}
+use Rattle.code_conventions.specs.pisa_isa.Machine.{State, turned_state, effect, row, row_of, faced, has_cell, Memory}
+use Rattle.code_conventions.specs.pisa_isa.Machine.{memory_of}
 use Rattle.code_conventions.proofs.pisa_isa_laws.Back.{Apart-cell}
 use Rattle.code_conventions.proofs.pisa_isa_laws.Effect.{Fits, effect-twice}
 use Rattle.code_conventions.proofs.pisa_isa_laws.Keeps.{new_value-lt}
@@ -172,7 +174,8 @@ effect_back c m h k w t =
       found = found_too c.op c.b m t;
     } in
     let same : e.back ≡ false = row_back c.op c.a c.b c.c c.imm s h in
-    let undone : effect c (turned_state e) ≡ turned_state s = effect-twice c.op c.a c.b c.c c.imm (pos 0) 0 false m.regs m.cells
+    let undone : effect c (turned_state e) ≡ turned_state s =
+    effect-twice c.op c.a c.b c.c c.imm (pos 0) 0 false m.regs m.cells
     fits in
     let free : memory_of (row_of d (turned_state e)) ≡ memory_of (row_of d (at_first (memory_of e))) =
     row_free d.op d.a d.b d.c d.imm (turned_state e) (single_inverse c.op h) in
@@ -270,7 +273,8 @@ within_runs im false cs piece m m1 m2 m3 k p w a r b =
     (ahead im piece (mirror_cells (line cs)) m1 m2 k (Done m3 (length cs)) r
     (turned_runs im (line cs) false m2 _ (went_behind im p w b)))
 within_runs im true cs piece m m1 m2 m3 k p w a r b =
-    steps_are im (within_symbols cs piece) true m m3 (length cs + k + length cs) (length cs + (k + length cs)) (omega arith)
+    steps_are im (within_symbols cs piece) true m m3 (length cs + k + length cs) (length cs + (k + length cs))
+    (omega arith)
     (behind im (line cs) (piece ++ mirror_cells (line cs)) m m2 (length cs + k) (Done m3 (length cs))
     (behind im piece (mirror_cells (line cs)) m m1 (length cs) (Done m2 k)
     (turned_runs im (line cs) true m _ (went_ahead im p a)) r)

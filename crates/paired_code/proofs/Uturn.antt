@@ -64,7 +64,8 @@ module _ (im : Image) (f : Frame) (a b x y : ℕ) (ne : x ≢ y) (hx : x < 2 ^ 3
       let s2 = at f (not d) (far (not d) y) m in
       let q = takes_bra f.flip m (between y x) in
       let e1 : act (oriented f.flip (rbra (between x y))) s0 ≡ s1 =
-      acts_to (oriented f.flip (rbra (between x y))) (frame_address f x) (frame_address f y) 0 (toward (not d) x y) (here d)
+      acts_to (oriented f.flip (rbra (between x y))) (frame_address f x) (frame_address f y) 0 (toward (not d) x y)
+      (here d)
       (here (not d)) m m (rbra_acts f.flip (here d) (between x y) (frame_address f x) 0 m
       ∙ ap (λ v. state (frame_address f x) v (not (here d)) m) (turn_br f.flip d x y ne hx hy)
       ∙ ap (λ k. state (frame_address f x) (toward (not d) x y) k m) (xor_not f.flip d))
@@ -91,8 +92,10 @@ module _ (im : Image) (f : Frame) (a b x y : ℕ) (ne : x ≢ y) (hx : x < 2 ^ 3
       let s2 = at f (not d) (far (not d) x) m in
       let q = takes_bra f.flip m (between y x) in
       let e1 : act (oriented f.flip (bra (between y x))) s0 ≡ s1 =
-      acts_to (oriented f.flip (bra (between y x))) (frame_address f y) (frame_address f x) 0 (toward d y x) (here d) (here d) m m
-      (q.acts (frame_address f y) 0 (here d) ∙ ap (λ v. state (frame_address f y) v (here d) m) (first_br f.flip d y x en hy hx))
+      acts_to (oriented f.flip (bra (between y x))) (frame_address f y) (frame_address f x) 0 (toward d y x) (here d)
+      (here d) m m
+      (q.acts (frame_address f y) 0 (here d) ∙ ap (λ v. state (frame_address f y) v (here d) m)
+      (first_br f.flip d y x en hy hx))
       (goes_to f.flip d f.base y x en hy hx) in
       let p1 = step_to im f a b 0 0 (oriented f.flip (bra (between y x))) Same s0 s1 (cell y ly uy) at_y q.own
       (q.goes (frame_address f y) 0 (here d)) (q.level im.routines (frame_address f y) 0 (here d)) same e1 in

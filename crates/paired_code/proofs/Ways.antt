@@ -14,7 +14,8 @@ use Rattle.code_conventions.specs.pisa_isa.declared.machine.Stop.{Stop}
 use Rattle.paired_code.proofs.Words.{is_positive, is_negative, near, far}
 use Rattle.paired_code.specs.Machine.{Image, memory_reg}
 use Rattle.paired_code.specs.Layout.{Frame, frame_address, between, resolved, Stands}
-use Rattle.paired_code.specs.Pieces.{stay, Outcome, Done, Way, Halts, Ends, finishes, traps, bad, still, outcome_after, then_do}
+use Rattle.paired_code.specs.Pieces.{stay, Outcome, Done, Way, Halts, Ends, finishes, traps, bad, still, outcome_after}
+use Rattle.paired_code.specs.Pieces.{then_do}
 use Rattle.paired_code.specs.Pieces.{outcome_around}
 use Rattle.paired_code.proofs.Paths.{append, widen, inside_wider}
 use Rattle.paired_code.proofs.Steps.{oriented, Has, Takes, calm_way, hop_way, takes_bra, takes_gt, takes_lt, calm_gt}
@@ -107,7 +108,8 @@ ends_then (still g) r = still g
 -- a way before, and a way after where the run leaves
 pub ends_around : {im : Image} {f : Frame} {d : Bool} {a b x y i i' j j' : ℕ} {m : Memory} {o : Outcome}
     → Way im f d a b x i m i' m → Ends im f d a b i' m j o
-    → ((m1 : Memory) (k : ℕ) → o ≡ Done m1 k → Way im f d a b y j m1 j' m1) → Ends im f d a b i m j' (outcome_around x y o)
+    → ((m1 : Memory) (k : ℕ) → o ≡ Done m1 k → Way im f d a b y j m1 j' m1)
+    → Ends im f d a b i m j' (outcome_around x y o)
 ends_around w e r = ends_after w (ends_then e (λ m1 k h. finishes (r m1 k h)))
 
 -- ---- a register that is 0 or not
@@ -132,7 +134,8 @@ pub record Fork (im : Image) (f : Frame) (r x w : ℕ) : Type 0 where
 
 pub fork_at : (im : Image) (f : Frame) (r x w : ℕ) → fetch im.code (frame_address f x)
     ≡ Some (resolved im f.flip (frame_address f x) (Own (bgtz r w)))
-    → fetch im.code (frame_address f (x + 1)) ≡ Some (resolved im f.flip (frame_address f (x + 1)) (Own (bltz r w))) → Fork im f r x w
+    → fetch im.code (frame_address f (x + 1)) ≡ Some (resolved im f.flip (frame_address f (x + 1)) (Own (bltz r w)))
+    → Fork im f r x w
 fork_at im f r x w h k = record { first = has im f x (bgtz r w) h; second = has im f (x + 1) (bltz r w) k }
 
 -- the gaps before and after a fork
@@ -144,7 +147,8 @@ abbrev pub far2 : Bool → ℕ → ℕ
 far2 false x = x + 1 + 1
 far2 true x = x
 
-pub fork_passed : (im : Image) (f : Frame) (d : Bool) (a b r x w : ℕ) (m : Memory) → a ≤ x → x + 1 < b → memory_reg m r ≡ 0
+pub fork_passed : (im : Image) (f : Frame) (d : Bool) (a b r x w : ℕ) (m : Memory) → a ≤ x → x + 1 < b
+    → memory_reg m r ≡ 0
     → Fork im f r x w → Way im f d a b 2 (near2 d x) m (far2 d x) m
 fork_passed im f false a b r x w m lo hi z k =
     and_then (calm_way im f false a b x (bgtz r w) m m lo (omega arith) k.first

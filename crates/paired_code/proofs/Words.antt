@@ -93,7 +93,8 @@ second true true x y n h k = omega arith
 
 pub first_br : (flip d : Bool) (x y : ℕ) → x ≢ y → x < 2 ^ 30 → y < 2 ^ 30
     → sum_of 0 (turned (bool_xor flip d) (flipped flip (between x y))) ≡ toward d x y
-first_br flip d x y n h k = ap (λ w. sum_of 0 (turned (bool_xor flip d) w)) (flipped_word flip x y) ∙ first flip d x y n h k
+first_br flip d x y n h k = ap (λ w. sum_of 0 (turned (bool_xor flip d) w)) (flipped_word flip x y)
+    ∙ first flip d x y n h k
 
 pub second_br : (flip d : Bool) (x y : ℕ) → x ≢ y → x < 2 ^ 30 → y < 2 ^ 30
     → sum_of (toward d x y) (turned (bool_xor flip d) (flipped flip (between y x))) ≡ 0

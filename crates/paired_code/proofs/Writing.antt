@@ -7,7 +7,8 @@ use Rattle.std.proofs.lemmas.Bool.Decides.{nat_tests}
 use Rattle.code_conventions.specs.pisa_isa.declared.cell.Cell.{Cell}
 use Rattle.paired_code.specs.Cells.{start_cell, finish}
 use Rattle.paired_code.specs.declared.part.Symbol.{Symbol}
-use Rattle.paired_code.specs.Link.{link_positions, linked, routine_code, routines_code, routines_size, first_top, link_code}
+use Rattle.paired_code.specs.Link.{link_positions, linked, routine_code, routines_code, routines_size, first_top}
+use Rattle.paired_code.specs.Link.{link_code}
 use Rattle.paired_code.specs.Link.{link_size, Linked}
 use Rattle.paired_code.specs.Fit.{AllSymbolsFit, EachFit}
 use Rattle.paired_code.specs.Code.{Code, bodies}
@@ -71,7 +72,8 @@ head_built rs main cells c0 c1 c2 c3 e e0 e1 e2 e3 =
     e3 ∙ ap (λ z. z ++ finish ∷ []) (e2 ∙ ap (λ z. z ++ linked rs (length z) cells) k1
     ∙ ap (λ z. start_cell ∷ linked rs 1 z) e)
 
-pub head_length : (rs : List ℕ) (main : List Symbol) (c : List Cell) → c ≡ (start_cell ∷ linked rs 1 main) ++ finish ∷ []
+pub head_length : (rs : List ℕ) (main : List Symbol) (c : List Cell)
+    → c ≡ (start_cell ∷ linked rs 1 main) ++ finish ∷ []
     → length c ≡ 1 + length main + 1
 head_length rs main c e = ap length e ∙ omega (
   arith,
@@ -80,12 +82,14 @@ head_length rs main c e = ap length e ∙ omega (
 )
 
 pub link_built : (main cells : List Symbol) (bs bs1 bs2 : List (List Symbol)) (rs rs1 rs2 : List ℕ) (n : ℕ)
-    (c0 c1 c2 c3 c4 : List Cell) → cells ≡ main → n ≡ length cells → bs1 ≡ bs → bs2 ≡ bs → rs ≡ link_positions (1 + n + 1) bs1
+    (c0 c1 c2 c3 c4 : List Cell) → cells ≡ main → n ≡ length cells → bs1 ≡ bs → bs2 ≡ bs
+    → rs ≡ link_positions (1 + n + 1) bs1
     → rs1 ≡ rs → rs2 ≡ rs → c0 ≡ [] → c1 ≡ c0 ++ start_cell ∷ [] → c2 ≡ c1 ++ linked rs1 (length c1) cells
     → c3 ≡ c2 ++ finish ∷ [] → c4 ≡ c3 ++ routines_code rs2 (length c3) bs2 → c4 ≡ link_code main bs
 link_built main cells bs bs1 bs2 rs rs1 rs2 n c0 c1 c2 c3 c4 ec en eb1 eb2 er e1 e2 k0 k1 k2 k3 k4 =
     let r = link_positions (first_top main) bs in
-    let r0 : rs ≡ r = er ∙ ap (λ z. link_positions (1 + n + 1) z) eb1 ∙ ap (λ z. link_positions (1 + z + 1) bs) (en ∙ ap length ec) in
+    let r0 : rs ≡ r = er ∙ ap (λ z. link_positions (1 + n + 1) z) eb1
+    ∙ ap (λ z. link_positions (1 + z + 1) bs) (en ∙ ap length ec) in
     let h = head_built rs1 main cells c0 c1 c2 c3 ec k0 k1 k2 k3 in
     let len = head_length rs1 main c3 h in
     let h' : c3 ≡ (start_cell ∷ linked r 1 main) ++ finish ∷ [] = h
@@ -99,7 +103,8 @@ link_built main cells bs bs1 bs2 rs rs1 rs2 n c0 c1 c2 c3 c4 ec en eb1 eb2 er e1
 
 pub law_built : (main : List Symbol) (bs : List (List Symbol)) (code : List Cell) → link_size main bs ≤ MOST_CELLS
     → code ≡ link_code main bs → Linked main bs (record { code = code; routines = link_positions (first_top main) bs })
-law_built main bs code s e = subst (λ z. Linked main bs (record { code = z; routines = link_positions (first_top main) bs }))
+law_built main bs code s e = subst (λ z. Linked main bs
+    (record { code = z; routines = link_positions (first_top main) bs }))
     (sym e) (linked_law main bs (omega arith))
 
 pub in_range : (main : List Symbol) (bs : List (List Symbol)) (code : List Cell) → AllSymbolsFit main → EachFit bs

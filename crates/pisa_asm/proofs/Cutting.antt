@@ -64,15 +64,18 @@ pub words_skip : (line : List ℕ) → line_words line ≡ line_words (drop (pre
 words_skip [] = refl
 words_skip (b ∷ line) = by_case (is_blank_byte b) refl (words_skip line)
   where
-    by_case : (t : Bool) → is_blank_byte b ≡ t → line_words line ≡ line_words (drop (prefix_len is_blank_byte line) line)
+    by_case : (t : Bool) → is_blank_byte b ≡ t → line_words line
+        ≡ line_words (drop (prefix_len is_blank_byte line) line)
         → line_words (b ∷ line) ≡ line_words (drop (prefix_len is_blank_byte (b ∷ line)) (b ∷ line))
     by_case true f rest = simp (f, one_more) rest
     by_case false f rest = simp (f, one_more)
 
 -- the first word of what follows blanks, and the words after it
 pub words_cut : (line : List ℕ) → 0 < length (drop (prefix_len is_blank_byte line) line)
-    → line_words line ≡ take (word_length (drop (prefix_len is_blank_byte line) line)) (drop (prefix_len is_blank_byte line) line)
-    ∷ line_words (drop (word_length (drop (prefix_len is_blank_byte line) line)) (drop (prefix_len is_blank_byte line) line))
+    → line_words line ≡ take (word_length (drop (prefix_len is_blank_byte line) line))
+    (drop (prefix_len is_blank_byte line) line)
+    ∷ line_words (drop (word_length (drop (prefix_len is_blank_byte line) line))
+    (drop (prefix_len is_blank_byte line) line))
 words_cut [] h = absurd (omega arith)
 words_cut (b ∷ line) h = by_case (is_blank_byte b) refl (words_cut line) h
   where
@@ -80,7 +83,8 @@ words_cut (b ∷ line) h = by_case (is_blank_byte b) refl (words_cut line) h
         → (0 < length (drop (prefix_len is_blank_byte line) line)
         → line_words line ≡ take (word_length (drop (prefix_len is_blank_byte line) line))
         (drop (prefix_len is_blank_byte line) line)
-        ∷ line_words (drop (word_length (drop (prefix_len is_blank_byte line) line)) (drop (prefix_len is_blank_byte line) line)))
+        ∷ line_words (drop (word_length (drop (prefix_len is_blank_byte line) line))
+        (drop (prefix_len is_blank_byte line) line)))
         → 0 < length (drop (prefix_len is_blank_byte (b ∷ line)) (b ∷ line))
         → line_words (b ∷ line) ≡ take (word_length (drop (prefix_len is_blank_byte (b ∷ line)) (b ∷ line)))
         (drop (prefix_len is_blank_byte (b ∷ line)) (b ∷ line))
@@ -96,7 +100,8 @@ word_some [] h = absurd (omega arith)
 word_some (b ∷ line) h = by_case (is_blank_byte b) refl (word_some line) h
   where
     by_case : (t : Bool) → is_blank_byte b ≡ t
-        → (0 < length (drop (prefix_len is_blank_byte line) line) → 0 < word_length (drop (prefix_len is_blank_byte line) line))
+        → (0 < length (drop (prefix_len is_blank_byte line) line)
+        → 0 < word_length (drop (prefix_len is_blank_byte line) line))
         → 0 < length (drop (prefix_len is_blank_byte (b ∷ line)) (b ∷ line))
         → 0 < word_length (drop (prefix_len is_blank_byte (b ∷ line)) (b ∷ line))
     by_case true f rest h = simp (f, one_more) (rest (simp (f, one_more) at h))

@@ -15,7 +15,8 @@ use Rattle.pisa_asm.specs.Chain.{and_then}
 use Rattle.pisa_asm.specs.Lines.{content_of, line_words}
 use Rattle.pisa_asm.specs.LabelNames.{after_labels, label_names, Labels}
 use Rattle.pisa_asm.specs.Items.{item_from}
-use Rattle.pisa_asm.specs.Passes.{Surveyed, no_lines, labels_at, counted_item, surveyed_words, surveyed, resolved_cell, with_cell}
+use Rattle.pisa_asm.specs.Passes.{Surveyed, no_lines, labels_at, counted_item, surveyed_words, surveyed, resolved_cell}
+use Rattle.pisa_asm.specs.Passes.{with_cell}
 use Rattle.pisa_asm.specs.Passes.{linked_item, linked_cells}
 use Rattle.pisa_asm.proofs.Chaining.{ok_then}
 use Rattle.pisa_asm.proofs.Ranging.{ItemFits, CellFits, item_fits, resolved_fits}
@@ -37,7 +38,8 @@ item_keeps line labels survey longer code more Nothing i f h g =
     let same_code : code ≡ more = cc in
     rw (← same, ← same_code) f
 item_keeps line labels survey longer code more (Code given) i f h g =
-    by_tests (is_one_to_one given.cell) (nat_lt survey.cells MOST_CELLS) (resolved_cell labels (length code) given) refl refl
+    by_tests (is_one_to_one given.cell) (nat_lt survey.cells MOST_CELLS) (resolved_cell labels (length code) given) refl
+    refl
     refl h g
   where
     by_tests : (o t : Bool) (r : Option Cell) → is_one_to_one given.cell ≡ o → nat_lt survey.cells MOST_CELLS ≡ t
@@ -118,7 +120,8 @@ lines_keep number labels survey end code whole (line ∷ lines) f h g =
     let j = ok_then (item_from number (after_labels words))
     (λ item. and_then (linked_item number labels code item) (λ longer. linked_cells (number + 1) labels longer lines))
     whole g in
-    let m = ok_then (linked_item number labels code j.0) (λ longer. linked_cells (number + 1) labels longer lines) whole j.2
+    let m = ok_then (linked_item number labels code j.0) (λ longer. linked_cells (number + 1) labels longer lines) whole
+    j.2
     in
     let one : j.0 ≡ i.0 = cc (i.1, j.1) in
     lines_keep (number + 1) labels s.0 end m.0 whole lines

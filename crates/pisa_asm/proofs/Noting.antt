@@ -104,7 +104,8 @@ joined_assoc a b c = same_notes ((a.marks ++ b.marks) ++ c.marks) (a.marks ++ (b
     ((a.names ++ b.names) ++ c.names) (a.names ++ (b.names ++ c.names))
     (append_assoc a.marks b.marks c.marks) (append_assoc a.names b.names c.names)
 
-pub marks_joined : (a : NoteLists) (marks : List Mark) → notes (a.marks ++ marks) a.names ≡ joined_notes a (notes marks [])
+pub marks_joined : (a : NoteLists) (marks : List Mark)
+    → notes (a.marks ++ marks) a.names ≡ joined_notes a (notes marks [])
 marks_joined a marks = same_notes (a.marks ++ marks) (a.marks ++ marks) a.names (a.names ++ []) refl
     (sym (append-nil a.names))
 

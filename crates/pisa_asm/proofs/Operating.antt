@@ -91,7 +91,8 @@ last_sound labels at Offset words o cell final h g =
         let label : o ≡ Label word = cc in
         let g0 : option_map (λ (place : ℕ). record cell { imm = difference_of place at }) (label_address word labels)
         ≡ Some final = rw label at g in
-        let p = some_map (λ (place : ℕ). record cell { imm = difference_of place at }) (label_address word labels) final g0
+        let p = some_map (λ (place : ℕ). record cell { imm = difference_of place at }) (label_address word labels) final
+        g0
         in
         said_at labels at Offset words cell final (difference_of p.0 at) (word, w, by_label p.0 n p.1 refl) p.2
     by_name word false n h w =

@@ -278,7 +278,8 @@ resolved_fits labels at given cell g h = by_target given.target g.target h
         → resolved_by labels at given.cell target ≡ Some cell → CellFits given cell
     by_target None t h = let same : cell ≡ given.cell = cc in rw same (record { in_range = g.in_range; same = refl })
     by_target (Some name) t h =
-        let p = some_map (λ (place : ℕ). record given.cell { imm = difference_of place at }) (label_address name labels) cell
+        let p = some_map (λ (place : ℕ). record given.cell { imm = difference_of place at }) (label_address name labels)
+        cell
         h in
         rw p.2 (record {
           in_range = record {

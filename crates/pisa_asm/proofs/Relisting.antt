@@ -259,7 +259,8 @@ marks_noted : (number : ℕ) (image : Segments) (so_far : NoteLists) (marks : Li
     → noted_lines number image so_far (lines_of (lines_by mark_text marks ++ rest))
     ≡ noted_lines (after number marks) image (notes (so_far.marks ++ marks) so_far.names) (lines_of rest)
 marks_noted number image so_far [] rest all h =
-    ap (λ (ms : List Mark). noted_lines number image (notes ms so_far.names) (lines_of rest)) (sym (append-nil so_far.marks))
+    ap (λ (ms : List Mark). noted_lines number image (notes ms so_far.names) (lines_of rest))
+    (sym (append-nil so_far.marks))
 marks_noted number image so_far (m ∷ marks) rest all h =
     let r : ReadsAs (mark_text m) (Marked m) = head (λ m. ReadsAs (mark_text m) (Marked m)) m marks all in
     let longer : NoteLists = notes (so_far.marks ++ m ∷ []) so_far.names in

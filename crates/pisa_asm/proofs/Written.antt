@@ -30,10 +30,13 @@ use Rattle.pisa_asm.specs.LabelNames.{label_names, after_labels, Labels}
 use Rattle.pisa_asm.specs.Mnemonics.{mnemonic, rows, row_named, static_mnemonic, mark_word, name_word}
 use Rattle.pisa_asm.specs.Operands.{sole, given_from}
 use Rattle.pisa_asm.specs.Items.{static_from, mark_from, name_from, item_by, item_from}
-use Rattle.pisa_asm.specs.Passes.{Surveyed, no_lines, labels_at, counted_item, surveyed_words, surveyed, resolved_cell, with_cell}
-use Rattle.pisa_asm.specs.Passes.{linked_item, linked_cells, sealed_image, with_mark, with_field_name, if_fits, noted_item, noted_lines}
+use Rattle.pisa_asm.specs.Passes.{Surveyed, no_lines, labels_at, counted_item, surveyed_words, surveyed, resolved_cell}
+use Rattle.pisa_asm.specs.Passes.{with_cell}
+use Rattle.pisa_asm.specs.Passes.{linked_item, linked_cells, sealed_image, with_mark, with_field_name, if_fits}
+use Rattle.pisa_asm.specs.Passes.{noted_item, noted_lines}
 use Rattle.pisa_asm.specs.Passes.{noted_of_lines}
-use Rattle.pisa_asm.specs.AssemblyText.{one_mark, one_name, joined_notes, ItemText, nothing, instruction, static, marked}
+use Rattle.pisa_asm.specs.AssemblyText.{one_mark, one_name, joined_notes, ItemText, nothing, instruction, static}
+use Rattle.pisa_asm.specs.AssemblyText.{marked}
 use Rattle.pisa_asm.specs.AssemblyText.{named, LinesText, finish, one_line, AreNew, AssemblyText}
 use Rattle.pisa_asm.proofs.Chaining.{ok_then, some_then}
 use Rattle.pisa_asm.proofs.Ranging.{CellFits, given_fits, resolved_fits}
@@ -123,13 +126,15 @@ item_is labels at line (first ∷ words) item h = by_row (row_named first) refl 
     by_row : (o : Option Op) → row_named first ≡ o → item_by line first words o ≡ Ok item
         → IsItem labels at (first ∷ words) item
     by_row (Some op) e h = by_given op (given_from op words) refl h (row_sound rows first op e)
-    by_row None e h = by_word (bytes_eq first static_mnemonic) (bytes_eq first mark_word) (bytes_eq first name_word) refl
+    by_row None e h = by_word (bytes_eq first static_mnemonic) (bytes_eq first mark_word) (bytes_eq first name_word)
+        refl
         refl refl h
 
 -- a line without code and static words
 note_said : (labels : Labels) (words : List (List ℕ)) (survey longer : Surveyed) (code more : List Cell)
     (before behind notes : NoteLists)
-    → ItemText labels (length code) words [] [] notes → survey ≡ longer → code ≡ more → behind ≡ joined_notes before notes
+    → ItemText labels (length code) words [] [] notes → survey ≡ longer → code ≡ more
+    → behind ≡ joined_notes before notes
     → ItemSaid labels words survey longer code more before behind
 note_said labels words survey longer code more before behind notes t same same_code n =
     rw (← same, ← same_code) (record {
@@ -164,7 +169,8 @@ item_said line labels words image survey longer code more before behind (Named f
     note_said labels words survey longer code more before behind (one_name field) i (cc) (cc)
     (sym p.0 ∙ names_joined before (field ∷ []))
 item_said line labels words image survey longer code more before behind (Code given) i h g n =
-    by_tests (is_one_to_one given.cell) (nat_lt survey.cells MOST_CELLS) (resolved_cell labels (length code) given) refl h g
+    by_tests (is_one_to_one given.cell) (nat_lt survey.cells MOST_CELLS) (resolved_cell labels (length code) given) refl
+    h g
   where
     by_tests : (o t : Bool) (r : Option Cell) → resolved_cell labels (length code) given ≡ r
         → cond o (cond t (Ok (record survey { cells = survey.cells + 1 })) (Err (TooManyCells line)))
@@ -223,7 +229,8 @@ record LinesSaid (labels : Labels) (survey end : Surveyed) (code whole : List Ce
 
 lines_said : (number : ℕ) (labels : Labels) (image : Segments) (survey end : Surveyed) (code whole : List Cell)
     (before behind : NoteLists) (lines : List (List ℕ))
-    → survey.cells ≡ length code → surveyed number survey lines ≡ Ok end → linked_cells number labels code lines ≡ Ok whole
+    → survey.cells ≡ length code → surveyed number survey lines ≡ Ok end
+    → linked_cells number labels code lines ≡ Ok whole
     → noted_lines number image before lines ≡ Ok behind
     → LinesSaid labels survey end code whole before behind lines
 lines_said number labels image survey end code whole before behind [] count h g o =
@@ -253,12 +260,14 @@ lines_said number labels image survey end code whole before behind (line ∷ lin
     let j = ok_then (item_from number (after_labels words))
     (λ item. and_then (linked_item number labels code item) (λ longer. linked_cells (number + 1) labels longer lines))
     whole g in
-    let m = ok_then (linked_item number labels code j.0) (λ longer. linked_cells (number + 1) labels longer lines) whole j.2
+    let m = ok_then (linked_item number labels code j.0) (λ longer. linked_cells (number + 1) labels longer lines) whole
+    j.2
     in
     let k = ok_then (item_from number (after_labels words))
     (λ item. and_then (noted_item number image before item) (λ longer. noted_lines (number + 1) image longer lines))
     behind o in
-    let t = ok_then (noted_item number image before k.0) (λ longer. noted_lines (number + 1) image longer lines) behind k.2 in
+    let t = ok_then (noted_item number image before k.0) (λ longer. noted_lines (number + 1) image longer lines) behind
+    k.2 in
     let one : j.0 ≡ i.0 = cc (i.1, j.1) in
     let same : k.0 ≡ i.0 = cc (i.1, k.1) in
     let P : Item → Type 0 = λ item. linked_item number labels code item ≡ Ok m.0 in
@@ -353,7 +362,8 @@ noted_fits number image before behind (line ∷ lines) f h =
     let k = ok_then (item_from number (after_labels (line_words (content_of line))))
     (λ item. and_then (noted_item number image before item) (λ longer. noted_lines (number + 1) image longer lines))
     behind h in
-    let t = ok_then (noted_item number image before k.0) (λ longer. noted_lines (number + 1) image longer lines) behind k.2 in
+    let t = ok_then (noted_item number image before k.0) (λ longer. noted_lines (number + 1) image longer lines) behind
+    k.2 in
     noted_fits (number + 1) image t.0 behind lines (item_fits_on number image before t.0 k.0 f t.1) t.2
 
 abbrev with_notes : List (List ℕ) → Segments → Result NotedImage AsmError
@@ -392,7 +402,8 @@ pub read_is_written : (lines : List (List ℕ)) (n : NotedImage) → noted_of_li
 read_is_written lines n h =
     let s = ok_then (surveyed 1 no_lines lines) (λ survey. and_then (linked_cells 1 survey.labels [] lines)
     (λ code. and_then (sealed_image code survey.statics) (with_notes lines))) n h in
-    let c = ok_then (linked_cells 1 s.0.labels [] lines) (λ code. and_then (sealed_image code s.0.statics) (with_notes lines)) n s.2
+    let c = ok_then (linked_cells 1 s.0.labels [] lines) (λ code. and_then (sealed_image code s.0.statics)
+    (with_notes lines)) n s.2
     in
     let i = ok_then (sealed_image c.0 s.0.statics) (with_notes lines) n c.2 in
     let o = ok_then (noted_lines 1 i.0 no_notes lines) (λ notes. Ok (noted_image i.0 notes)) n i.2 in
@@ -470,7 +481,8 @@ item_reads : (line : ℕ) (labels : Labels) (words : List (List ℕ)) (image : S
     (code cells : List Cell) (statics : List ℕ) (before here behind : NoteLists)
     → ItemText labels (length code) words cells statics here → list_all is_one_to_one cells ≡ true
     → survey.cells + length cells ≤ MOST_CELLS
-    → length survey.statics + length statics ≤ MOST_STATICS → behind ≡ joined_notes before here → fits image behind ≡ true
+    → length survey.statics + length statics ≤ MOST_STATICS → behind ≡ joined_notes before here
+    → fits image behind ≡ true
     → ItemRead line labels words image survey code cells statics before behind
 item_reads line labels words image survey code cells statics before here behind (nothing w c s n) one room static_room j
     f = record {
@@ -576,7 +588,8 @@ lines_read labels at lines written more statics notes (one_line at0 line rest na
     length-append here after_statics in
     let labeled_survey : Surveyed = record survey { labels = survey.labels ++ placed survey.cells names } in
     let noted_here : NoteLists = joined_notes before notes_here in
-    let all_notes : behind ≡ joined_notes noted_here after_notes = j ∙ sym (joined_assoc before notes_here after_notes) in
+    let all_notes : behind ≡ joined_notes noted_here after_notes = j
+    ∙ sym (joined_assoc before notes_here after_notes) in
     let fit_here : fits image noted_here ≡ true = fits_front image noted_here after_notes
     (same_fits image behind (joined_notes noted_here after_notes) all_notes f) in
     let read : ItemRead number labels words image labeled_survey code cells here before noted_here =

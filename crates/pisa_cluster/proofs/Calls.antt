@@ -10,9 +10,11 @@ use Rattle.pisa_isa.specs.Machine.{IsNext, stop, next}
 use Rattle.pisa_isa.proofs.Keeps.{IsNext-next}
 use Rattle.pisa_cluster.specs.declared.processor.Processor.{Processor}
 use Rattle.pisa_cluster.specs.declared.processor.Kept.{Kept}
-use Rattle.pisa_cluster.specs.Replay.{Joint, processor_at, processor_state, in_state, touches, step_of, cstep, replay, makers}
+use Rattle.pisa_cluster.specs.Replay.{Joint, processor_at, processor_state, in_state, touches, step_of, cstep, replay}
+use Rattle.pisa_cluster.specs.Replay.{makers}
 use Rattle.pisa_cluster.specs.Replay.{start_of_joint}
-use Rattle.pisa_cluster.specs.Schedules.{Schedule, IsCluster, IsStepMade, IsAtStop, LastOf, next_touch, IsFree, IsTakenBack}
+use Rattle.pisa_cluster.specs.Schedules.{Schedule, IsCluster, IsStepMade, IsAtStop, LastOf, next_touch, IsFree}
+use Rattle.pisa_cluster.specs.Schedules.{IsTakenBack}
 use Rattle.pisa_cluster.specs.Schedules.{IsBlocked, rewound}
 use Rattle.pisa_cluster.proofs.Commuting.{slice_get-set_same, set_there}
 use Rattle.pisa_cluster.proofs.Undoing.{made, Back, free_step, drop_next, removed, found_at, replayed-start}
@@ -162,7 +164,8 @@ pub is_next : (c : Schedule) (s : Joint) (step : Kept) (b : Back c s step) (q : 
 is_next c s step b q read =
     let same : q.image ≡ b.processor.image = ap (λ (x : Processor). x.image) (read_is c s step b q read) in
     subst (λ image. IsNext image.code (processor_state q c.joint.cells)) (sym same)
-    (IsNext-next b.processor.image.code (processor_state b.processor s.cells) (processor_state q c.joint.cells) b.code b.state b.goes
+    (IsNext-next b.processor.image.code (processor_state b.processor s.cells) (processor_state q c.joint.cells) b.code
+    b.state b.goes
     (seen_next c s step b q read ∙ ap (λ image. next image.code (processor_state b.processor s.cells)) same))
 
 pub goes_there : (c : Schedule) (s : Joint) (step : Kept) (b : Back c s step) (q : Processor)

@@ -8,7 +8,8 @@ use borrow.Author.Tests.{eqb-false}
 use Rattle.pisa_isa.specs.Machine.{stop, next}
 use Rattle.pisa_cluster.specs.declared.processor.Processor.{Processor}
 use Rattle.pisa_cluster.specs.declared.processor.Kept.{Kept}
-use Rattle.pisa_cluster.specs.Replay.{Joint, processor_at, processor_state, in_state, touches, step_of, cstep, replay, StepGoes, AllGo}
+use Rattle.pisa_cluster.specs.Replay.{Joint, processor_at, processor_state, in_state, touches, step_of, cstep, replay}
+use Rattle.pisa_cluster.specs.Replay.{StepGoes, AllGo}
 use Rattle.pisa_cluster.specs.Replay.{makers}
 use Rattle.pisa_cluster.specs.Schedules.{is_same_cell, next_touch}
 use Rattle.pisa_cluster.proofs.Locality.{written, put_by, next-same, stop-same, next-cells, length-written}
@@ -38,7 +39,8 @@ module _ {X : Type 0} where
 
 -- the next state of a processor, whatever the cells that it does not touch hold
 in_next : (p : Processor) (t : Option ℕ) (w : ℕ) (cells : List ℕ) → is_same_cell (touches p) t ≡ false
-    → in_state p (next p.image.code (processor_state p (written t w cells))) ≡ in_state p (next p.image.code (processor_state p cells))
+    → in_state p (next p.image.code (processor_state p (written t w cells)))
+    ≡ in_state p (next p.image.code (processor_state p cells))
 in_next p t w cells apart = ap (in_state p) (next-same p (written t w cells) cells
     (read-written (touches p) t w cells apart))
 
@@ -58,16 +60,24 @@ module _ (s : Joint) (i k : ℕ) (p q : Processor) where
       let second = next-cells q s.cells in
       let p1 = in_state p (next p.image.code (processor_state p s.cells)) in
       let q1 = in_state q (next q.image.code (processor_state q s.cells)) in
-      let left_cells : (next q.image.code (processor_state q (next p.image.code (processor_state p s.cells)).cells)).cells
+      let left_cells : (next q.image.code (processor_state q
+      (next p.image.code (processor_state p s.cells)).cells)).cells
       ≡ written (touches q) (put_by q) (written (touches p) (put_by p) s.cells)
-      = next-cells q (next p.image.code (processor_state p s.cells)).cells ∙ ap (written (touches q) (put_by q)) first in
-      let right_cells : (next p.image.code (processor_state p (next q.image.code (processor_state q s.cells)).cells)).cells
+      = next-cells q (next p.image.code (processor_state p s.cells)).cells
+      ∙ ap (written (touches q) (put_by q)) first in
+      let right_cells : (next p.image.code (processor_state p
+      (next q.image.code (processor_state q s.cells)).cells)).cells
       ≡ written (touches p) (put_by p) (written (touches q) (put_by q) s.cells)
-      = next-cells p (next q.image.code (processor_state q s.cells)).cells ∙ ap (written (touches p) (put_by p)) second in
-      let q2 : in_state q (next q.image.code (processor_state q (next p.image.code (processor_state p s.cells)).cells)) ≡ q1
-      = ap (λ c. in_state q (next q.image.code (processor_state q c))) first ∙ in_next q (touches p) (put_by p) s.cells turned in
-      let p2 : in_state p (next p.image.code (processor_state p (next q.image.code (processor_state q s.cells)).cells)) ≡ p1
-      = ap (λ c. in_state p (next p.image.code (processor_state p c))) second ∙ in_next p (touches q) (put_by q) s.cells free in
+      = next-cells p (next q.image.code (processor_state q s.cells)).cells
+      ∙ ap (written (touches p) (put_by p)) second in
+      let q2 : in_state q (next q.image.code (processor_state q (next p.image.code (processor_state p s.cells)).cells))
+      ≡ q1
+      = ap (λ c. in_state q (next q.image.code (processor_state q c))) first
+      ∙ in_next q (touches p) (put_by p) s.cells turned in
+      let p2 : in_state p (next p.image.code (processor_state p (next q.image.code (processor_state q s.cells)).cells))
+      ≡ p1
+      = ap (λ c. in_state p (next p.image.code (processor_state p c))) second
+      ∙ in_next p (touches q) (put_by q) s.cells free in
       ap₂ (λ x c. record { processors = slice_set (slice_set s.processors i p1) k x; cells = c }) q2 left_cells
       ∙ ap₂ (λ ps c. record { processors = ps; cells = c }) (set_comm s.processors i k p1 q1 apart)
       (written-written (touches q) (touches p) (put_by q) (put_by p) s.cells turned)
@@ -91,7 +101,8 @@ swapped_at s i k step later mine its apart g h free =
     subst (λ (t : Joint). slice_get t.processors k ≡ Some q) led
     (subst (λ n. processor_at (cstep s step.who) n ≡ Some q) its h.there) in
     let its_there : slice_get s.processors k ≡ Some q = sym
-    (slice_get-set_other s.processors i k (in_state p (next p.image.code (processor_state p s.cells))) (λ e. apart (sym e)))
+    (slice_get-set_other s.processors i k (in_state p (next p.image.code (processor_state p s.cells)))
+    (λ e. apart (sym e)))
     ∙ found in
     let its_led : cstep s later.who ≡ step_of s k (Some q) = ap (cstep s) its ∙ ap (step_of s k) its_there in
     let free_now : is_same_cell (touches p) (touches q) ≡ false =
@@ -134,7 +145,8 @@ numbered : (s : Joint) (who : ℕ) (p : Processor) → processor_at s who ≡ So
 numbered s zero p h = absurd (none-some p h)
 numbered s (suc i) p h = (i, refl)
 
-pub swapped : (s : Joint) (step later : Kept) → later.who ≢ step.who → StepGoes s step → StepGoes (cstep s step.who) later
+pub swapped : (s : Joint) (step later : Kept) → later.who ≢ step.who → StepGoes s step
+    → StepGoes (cstep s step.who) later
     → is_same_cell step.touched later.touched ≡ false → Swapped s step later
 swapped s step later apart g h free =
     let mine = numbered s step.who g.processor g.there in

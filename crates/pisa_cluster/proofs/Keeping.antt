@@ -11,7 +11,8 @@ use Rattle.pisa_isa.specs.Machine.{IsState, stop, next}
 use Rattle.pisa_isa.proofs.Keeps.{next-IsState}
 use Rattle.pisa_cluster.specs.declared.processor.Processor.{Processor}
 use Rattle.pisa_cluster.specs.declared.processor.Kept.{Kept}
-use Rattle.pisa_cluster.specs.Replay.{Joint, processor_at, processor_state, in_state, touches, step_of, cstep, replay, AllGo}
+use Rattle.pisa_cluster.specs.Replay.{Joint, processor_at, processor_state, in_state, touches, step_of, cstep, replay}
+use Rattle.pisa_cluster.specs.Replay.{AllGo}
 use Rattle.pisa_cluster.specs.Replay.{makers, started_processor, joint_begun, start_of_joint}
 use Rattle.pisa_cluster.proofs.Locality.{put_by, next-cells, length-written}
 
@@ -27,7 +28,8 @@ step_of-start : (s : Joint) (i : ℕ) (o : Option Processor) → slice_get s.pro
     → start_of_joint (step_of s i o) ≡ start_of_joint s
 step_of-start s i None there = refl
 step_of-start s i (Some p) there =
-    ap₂ (λ images n. joint_begun images n) (set-images s.processors i p (in_state p (next p.image.code (processor_state p s.cells)))
+    ap₂ (λ images n. joint_begun images n) (set-images s.processors i p
+    (in_state p (next p.image.code (processor_state p s.cells)))
     there refl)
     (ap length (next-cells p s.cells) ∙ length-written (touches p) (put_by p) s.cells)
 
@@ -96,7 +98,8 @@ step_of-words : (s : Joint) (i : ℕ) (p : Processor) → slice_get s.processors
     → stop p.image.code (processor_state p s.cells) ≡ None → AreWords (step_of s i (Some p))
 step_of-words s i p there h goes =
     let mine = all-there HasWords s.processors i p there h.processors in
-    let m = next-IsState p.image.code (processor_state p s.cells) mine.is_image.is_code (state_seen p s.cells mine h.cells) goes in
+    let m = next-IsState p.image.code (processor_state p s.cells) mine.is_image.is_code
+    (state_seen p s.cells mine h.cells) goes in
     record {
       processors = All-set HasWords s.processors i (in_state p (next p.image.code (processor_state p s.cells)))
           (record { is_image = mine.is_image; br_word = m.br_word; count = m.count; words = m.words }) h.processors;

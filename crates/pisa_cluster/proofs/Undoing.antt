@@ -11,9 +11,11 @@ use Rattle.pisa_cluster.specs.declared.cluster.Moved.{Moved}
 use Rattle.pisa_cluster.specs.declared.cluster.Moved.TheVariants.{Made, Stopped}
 use Rattle.pisa_cluster.specs.declared.cluster.Undone.{Undone}
 use Rattle.pisa_cluster.specs.declared.cluster.Undone.TheVariants.{Done, Nothing, Blocked}
-use Rattle.pisa_cluster.specs.Replay.{Joint, processor_at, processor_state, touches, step_of, cstep, replay, StepGoes, AllGo, makers}
+use Rattle.pisa_cluster.specs.Replay.{Joint, processor_at, processor_state, touches, step_of, cstep, replay, StepGoes}
+use Rattle.pisa_cluster.specs.Replay.{AllGo, makers}
 use Rattle.pisa_cluster.specs.Replay.{started_processor, start_of_joint}
-use Rattle.pisa_cluster.specs.Schedules.{Schedule, AreSerials, IsCluster, ProcessorMoves, LastOf, next_touch, IsFree, Undoes}
+use Rattle.pisa_cluster.specs.Schedules.{Schedule, AreSerials, IsCluster, ProcessorMoves, LastOf, next_touch, IsFree}
+use Rattle.pisa_cluster.specs.Schedules.{Undoes}
 use Rattle.pisa_cluster.specs.Schedules.{rewound, Move, Step, Undo, Rewind, Performs, MovesLead}
 use Rattle.pisa_cluster.proofs.Commuting.{behind, replay-append, all_go-append, all_go-split}
 use Rattle.pisa_cluster.proofs.Keeping.{HasImages, AreWords, cstep-start, replay-start, start_of-begun, images_same}
@@ -144,7 +146,8 @@ pub record Back (c : Schedule) (s : Joint) (step : Kept) : Type 0 where
   pub led : c.joint ≡ step_of s place (Some processor)
 
 back_of : (c : Schedule) (s : Joint) (step : Kept) (who : ℕ) (p : Processor) → step.who ≡ who
-    → processor_at s who ≡ Some p → stop p.image.code (processor_state p s.cells) ≡ None → AreWords s → c.joint ≡ cstep s step.who
+    → processor_at s who ≡ Some p → stop p.image.code (processor_state p s.cells) ≡ None → AreWords s
+    → c.joint ≡ cstep s step.who
     → Back c s step
 back_of c s step zero p same there goes words led = absurd (cc)
 back_of c s step (suc i) p same there goes words led =

@@ -27,7 +27,8 @@ use Rattle.pisa_image.specs.declared.error.ImageError.TheVariants.{ImageTrailing
 use Rattle.pisa_image.specs.Numbers.{◌>>=◌, refused_as, word_bytes, words_bytes, read_word_at, words_at}
 use Rattle.pisa_image.specs.ImageBytes.{cell_bytes, header_bytes, segment_bytes, notes_bytes, image_bytes}
 use Rattle.pisa_image.specs.ImageBytes.{old_image_bytes, AreBytesOf}
-use Rattle.pisa_image.specs.Reading.{ImageGives, ImageFails, tested_word, number_between, cell_at, cells_at, header_at, segments}
+use Rattle.pisa_image.specs.Reading.{ImageGives, ImageFails, tested_word, number_between, cell_at, cells_at, header_at}
+use Rattle.pisa_image.specs.Reading.{segments}
 use Rattle.pisa_image.specs.Reading.{segments_at, notes_of, notes_at, ended, sealed, noted, noted_at, image_at}
 use Rattle.pisa_image.specs.Reading.{number_refusal, is_of_counts, as_image_error}
 use Rattle.pisa_image.proofs.Many.{IsBytes, Takes, takes_then, bind_ok, ok_is, many_take, many_again}
@@ -342,7 +343,8 @@ old_again image i words =
 
 -- for the contract of the reader
 
-pub is_found : (bytes : List ℕ) (r : Result NotedImage ImageError) → IsBytes bytes → ImageGives (λ n. n) r (image_at bytes)
+pub is_found : (bytes : List ℕ) (r : Result NotedImage ImageError) → IsBytes bytes
+    → ImageGives (λ n. n) r (image_at bytes)
     → IfOk r (λ n. AreBytesOf n bytes)
 is_found bytes (Ok x) fits given = image_takes bytes x fits given
 is_found bytes (Err e) fits given = tt

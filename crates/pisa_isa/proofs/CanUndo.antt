@@ -84,7 +84,8 @@ came_at code m s None k ok e h n = absurd (cc)
 came_at code m s (Some c) k ok e h n =
     let is_cell : IsCell c = IsCell-fetch code s.pc c k e in
     let is : m ≡ moved (effect c s) = n ∙ ap (λ o. moved (effect_at o s)) e in
-    let before : moved (turned_state m) ≡ turned_state (effect c s) = ap (λ x. moved (turned_state x)) is ∙ moved-twice (effect c s) in
+    let before : moved (turned_state m) ≡ turned_state (effect c s) = ap (λ x. moved (turned_state x)) is
+    ∙ moved-twice (effect c s) in
     let at = fetch_place code s.pc c e in
     let limit = k.in_limit in
     let high : s.pc ≤ℤ pos MOST_CELLS = omega (arith, ints) in
@@ -118,7 +119,8 @@ row-apart _ a b c i pc p br false regs cells = refl
 
 effect-apart : (c : Cell) (m : State) → record (row_of (faced (not m.back) c) m) { pc = (moved (turned_state m)).pc }
     ≡ turned_state (effect c (moved (turned_state m)))
-effect-apart c m = let d = faced (not m.back) c in row-apart d.op d.a d.b d.c d.imm m.pc (moved (turned_state m)).pc m.br
+effect-apart c m = let d = faced (not m.back) c in row-apart d.op d.a d.b d.c d.imm m.pc (moved (turned_state m)).pc
+    m.br
     m.back m.regs m.cells
 
 pub stepped_back : (code : List Cell) (m : State) (c : Cell) (s : State) (p : ℤ)
@@ -135,5 +137,6 @@ has_cell-apart : (op : Op) (s : ℕ) (m : State) → has_cell op s (moved (turne
 has_cell-apart Exch s m = refl
 has_cell-apart _ s m = refl
 
-pub has_cell-before : (c : Cell) (m : State) → has_cell c.op c.b (moved (turned_state m)) ≡ true → has_cell c.op c.b m ≡ true
+pub has_cell-before : (c : Cell) (m : State) → has_cell c.op c.b (moved (turned_state m)) ≡ true
+    → has_cell c.op c.b m ≡ true
 has_cell-before c m h = sym (has_cell-apart c.op c.b m) ∙ h

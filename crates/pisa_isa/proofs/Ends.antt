@@ -128,7 +128,8 @@ record AtFinish (op : Op) (m : State) : Type 0 where
   forward : m.back ≡ false
   no_branch : m.br ≡ 0
 
-both_of : (b : Bool) (br : ℕ) → cond (not b && is_zero_word br) (Some Finished) None ≡ Some Finished → (b ≡ false) × (br ≡ 0)
+both_of : (b : Bool) (br : ℕ) → cond (not b && is_zero_word br) (Some Finished) None ≡ Some Finished
+    → (b ≡ false) × (br ≡ 0)
 both_of true br e = absurd (cc)
 both_of false br e = (refl, grind (arith, nat_tests))
 

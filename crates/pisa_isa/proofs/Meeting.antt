@@ -7,7 +7,8 @@ use Rattle.pisa_isa.specs.declared.cell.Cell.{Cell}
 use Rattle.pisa_isa.specs.declared.machine.Stop.{Stop}
 use Rattle.pisa_isa.specs.declared.machine.Stop.TheVariants.{Finished, Returned, BadAddress}
 use Rattle.pisa_isa.specs.Table.{IsCell, b_is_source, inverse_op, inverse_of}
-use Rattle.pisa_isa.specs.Machine.{State, IsCode, IsState, turned_state, moved, effect, effect_at, is_zero_word, fetch, stop}
+use Rattle.pisa_isa.specs.Machine.{State, IsCode, IsState, turned_state, moved, effect, effect_at, is_zero_word, fetch}
+use Rattle.pisa_isa.specs.Machine.{stop}
 use Rattle.pisa_isa.specs.Machine.{stop_at, stop_in, next}
 use Rattle.pisa_isa.specs.Image.{is_start_op, is_finish_op, is_start, is_finish}
 use Rattle.pisa_isa.specs.Ends.{begins, begins_backward, cell_is}
@@ -110,7 +111,8 @@ pub stop-met : (code : List Cell) (m : State) → IsCode code → stop code m �
 stop-met code m k h inside =
     let d = made_at code m k h in
     let c = d.cell in
-    let passes = passes_of c.op m.back m.br (ap (λ o. (cell_is is_start o && not m.back) && is_zero_word m.br) (sym d.there)
+    let passes = passes_of c.op m.back m.br (ap (λ o. (cell_is is_start o && not m.back) && is_zero_word m.br)
+    (sym d.there)
     ∙ inside.0) (ap (λ o. (cell_is is_finish o && m.back) && is_zero_word m.br) (sym d.there) ∙ inside.1) in
     ap (λ o. stop_at o (met (length code) (next code m))) (there_flipped code m d)
     ∙ ap (λ s. stop_in (inverse_op c.op) (inverse_of c) (mirrored (length code) s)) d.before
@@ -144,7 +146,8 @@ IsInside-met code m k h =
     let inside = inside_in c.op c.a c.b c.c c.imm n m.pc m.br m.back m.regs m.cells d.goes in
     let there = there_flipped code m d in (
       ap (λ o. (cell_is is_start o && not (met n (next code m)).back) && is_zero_word (met n (next code m)).br) there
-          ∙ ap (λ s. (is_start_op (inverse_op c.op) && not (mirrored n s).back) && is_zero_word (mirrored n s).br) d.before
+          ∙ ap (λ s. (is_start_op (inverse_op c.op) && not (mirrored n s).back) && is_zero_word (mirrored n s).br)
+          d.before
           ∙ inside.0,
       ap (λ o. (cell_is is_finish o && (met n (next code m)).back) && is_zero_word (met n (next code m)).br) there
           ∙ ap (λ s. (is_finish_op (inverse_op c.op) && (mirrored n s).back) && is_zero_word (mirrored n s).br) d.before

@@ -18,7 +18,8 @@ use Rattle.pisa_image.proofs.Words.{read_as, word_takes, word_again}
 use Rattle.pisa_loader.specs.declared.state.TheConstants.{STATE_MARK, STATE_VERSION}
 use Rattle.pisa_loader.specs.declared.error.LoadError.{LoadError}
 use Rattle.pisa_loader.specs.declared.error.LoadError.TheVariants.{BadState, NoMemory}
-use Rattle.pisa_loader.specs.States.{Gives, Fails, load_refusal, loaded_memory, IsMemory, state_bytes, known_word, state_at, at_start}
+use Rattle.pisa_loader.specs.States.{Gives, Fails, load_refusal, loaded_memory, IsMemory, state_bytes, known_word}
+use Rattle.pisa_loader.specs.States.{state_at, at_start}
 
 -- a refusal within is a refusal of the whole
 pub fails_with : {X Y : Type 0} (e : LoadError) (inner : Result X LoadError) (whole : Result Y LoadError)
@@ -83,7 +84,8 @@ state_takes count bytes m fits e =
     (Err (BadState (140 + 4 * count)))) m b.2 in
     let n = bind_ok (known_word count 136 r.0.1) (λ counted. state_words count 140 counted >>= λ cells. cond
     (nat_eq (length cells.1) 0) (Ok (loaded_memory r.0.0 cells.0)) (Err (BadState (140 + 4 * count)))) m r.2 in
-    let d = bind_ok (state_words count 140 n.0) (λ cells. cond (nat_eq (length cells.1) 0) (Ok (loaded_memory r.0.0 cells.0))
+    let d = bind_ok (state_words count 140 n.0) (λ cells. cond (nat_eq (length cells.1) 0)
+    (Ok (loaded_memory r.0.0 cells.0))
     (Err (BadState (140 + 4 * count)))) m n.2 in
     let g = passed (nat_eq (length d.0.1) 0) (BadState (140 + 4 * count)) (loaded_memory r.0.0 d.0.0) m d.2 in
     let ta = known_takes STATE_MARK 0 bytes a.0 fits a.1 in
@@ -178,7 +180,8 @@ pub start_again : (image : Segments) (count : ℕ) (m : Memory) (bytes : List �
     → at_start image (state_at count bytes) ≡ Ok (first_position image m.regs m.cells)
 start_again image count m bytes low i e = ap (at_start image) (ap (state_at count) e ∙ state_again count m low i)
 
-pub saved_memory : (p : Position) → IsMachine p → IsMemory (length p.state.cells) (loaded_memory p.state.regs p.state.cells)
+pub saved_memory : (p : Position) → IsMachine p → IsMemory (length p.state.cells)
+    (loaded_memory p.state.regs p.state.cells)
 saved_memory p i =
     let s = machine_is_state p i in
     record { registers = s.count; size = refl; register_words = s.words; cell_words = s.cell_words }

@@ -56,4 +56,5 @@ pub finishes_not : (writing : Option Writing) (w : Writing) (text : List ℕ) (t
     ⊎ CannotWrite (written_file w) shelf shelf' out out' (broken_code broken)
     → Finishes (option_map written_file writing) text taken shelf shelf' out out' (ended_status taken (Err broken))
 finishes_not writing w text taken shelf shelf' out out' broken is h =
-    subst (λ w. Finishes (option_map written_file w) text taken shelf shelf' out out' (broken_code broken)) (sym is) (inr h)
+    subst (λ w. Finishes (option_map written_file w) text taken shelf shelf' out out' (broken_code broken)) (sym is)
+    (inr h)

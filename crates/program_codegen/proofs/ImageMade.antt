@@ -76,7 +76,8 @@ module _ (program : Source) (pieces : List Code) (are : AreRoutines program piec
     stands is = linked_programs_stand program main.cells are.allocator.cells (bodies are.methods) image is
 
     -- the cells outside of bodies, and few of theirs
-    few_unmarked : (es : List RoutineEntry) (ps : List Code) → AllZip (IsRoutine program) es ps → spare ps ≤ 12 * length es
+    few_unmarked : (es : List RoutineEntry) (ps : List Code) → AllZip (IsRoutine program) es ps
+        → spare ps ≤ 12 * length es
     few_unmarked [] [] h = omega arith
     few_unmarked [] (p ∷ ps) h = absurd h
     few_unmarked (e ∷ es) [] h = absurd h
@@ -130,7 +131,8 @@ module _ (program : Source) (pieces : List Code) (are : AreRoutines program piec
 
 -- the static cells are few
 pub few_statics : (program : Source) (words : List StaticWord) → IsAccepted program
-    → ((link_positions : List ℕ) → map (static_word link_positions) words ≡ statics_of program 1 link_positions) → length words ≤ most_cells
+    → ((link_positions : List ℕ) → map (static_word link_positions) words ≡ statics_of program 1 link_positions)
+    → length words ≤ most_cells
 few_statics program words accepted are =
     let e : length words ≡ length (statics_of program 1 []) = sym (length-map words (static_word []))
     ∙ ap length (are []) in

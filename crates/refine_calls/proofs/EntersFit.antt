@@ -11,7 +11,8 @@ use Rattle.method_calls.specs.class_rules.declared.kind.Kind.{Kind}
 use Rattle.method_calls.specs.roopl_semantics.Store.{Value, Store, State, main_name}
 use Rattle.method_calls.specs.roopl_semantics.Execution.{Setting, bound}
 use Rattle.method_calls.specs.roopl_semantics.Laws.{holders_among}
-use Rattle.method_calls.specs.meaning_sound.Sound.{named_fits, head_named, is_live, AllFit, local_type, bound_value, held, cell_kind}
+use Rattle.method_calls.specs.meaning_sound.Sound.{named_fits, head_named, is_live, AllFit, local_type, bound_value}
+use Rattle.method_calls.specs.meaning_sound.Sound.{held, cell_kind}
 use Rattle.method_calls.specs.meaning_sound.Sound.{part_kind}
 use Rattle.method_calls.proofs.meaning_sound_laws.Objects.{all_live}
 use Rattle.method_calls.proofs.meaning_sound_laws.Invocations.{types_of_params, bound_values}
@@ -50,7 +51,8 @@ module _ (setting : Setting) (statics : List ℕ) where
   moved_types store s u (x ∷ names) (t ∷ ks) [] k h e = absurd (omega (arith, e))
   moved_types store s u (x ∷ names) (t ∷ ks) (v ∷ vals) k h e =
       let same : h.0.kind ≡ t = (let q : Some h.0.kind ≡ Some t = sym h.0.of_cell ∙ k.0 in cc) in (
-        subst (λ z. Rattle.method_calls.specs.meaning_sound.Sound.is_of_kind setting.program store v z ≡ true) same h.0.fit,
+        subst (λ z. Rattle.method_calls.specs.meaning_sound.Sound.is_of_kind setting.program store v z ≡ true) same
+            h.0.fit,
         moved_types store s u names ks vals k.1 h.1 (let q : suc (length vals) ≡ suc (length names) = e in
             omega (arith, q)),
       )
@@ -103,7 +105,8 @@ module _ (setting : Setting) (statics : List ℕ) where
         by : (b : Bool) → nat_lt 0 (holders_among m (map bound_value st.frame)) ≡ b → is_live st.store m ≡ true
         by true e = all_live setting.program st.store (map local_type (shape_of setting.program s))
             (map bound_value st.frame) m k.variables (ltb-true 0 (holders_among m (map bound_value st.frame)) e)
-        by false e = k.lives m (let q = ltb-false 0 (holders_among m (map bound_value st.frame)) e in omega (arith, q, p))
+        by false e = k.lives m (let q = ltb-false 0 (holders_among m (map bound_value st.frame)) e in
+            omega (arith, q, p))
 
     pub counts_enter : CountsAre u (pairs args vals) st → CountsAre (deeper s u st) [] (callee_state s'.vars vals st)
     counts_enter counts m c q = let a = counts m c q in let b = total m in omega (arith, a, b)
@@ -152,7 +155,8 @@ module _ (setting : Setting) (statics : List ℕ) where
         by false e = k.lives m (let q = ltb-false 0 (holders_among m (map bound_value end.frame)) e in
             let b = ap (holders_among m) (pairs_values args (map bound_value end.frame) many) in omega (arith, q, p, b))
 
-    pub counts_leave : CountsAre (deeper s u st) [] end → CountsAre u (pairs args (map bound_value end.frame)) after_call
+    pub counts_leave : CountsAre (deeper s u st) [] end → CountsAre u (pairs args (map bound_value end.frame))
+        after_call
     counts_leave counts m c q = let a = counts m c q in let b = total' m in omega (arith, a, b)
 
     pub kept_leaves : Kept setting statics s u (pairs args (map bound_value end.frame)) after_call
@@ -174,6 +178,7 @@ module _ (setting : Setting) (statics : List ℕ) where
       grounded = k.grounded;
       callers_fit = k.callers_fit.3;
       callers_held = k.callers_held.1;
-      moved_fit = types_moved end.store s u args (map local_type (shape_of setting.program s')) (map bound_value end.frame)
+      moved_fit = types_moved end.store s u args (map local_type (shape_of setting.program s'))
+          (map bound_value end.frame)
           kinds k.variables;
     }

@@ -119,7 +119,8 @@ module _ (program : Source) (b : Binding) (frame : List Binding) (self depth : �
 -- ---- ints
 
 -- what a run of an evaluation gave
-pub told_ok : (n : ℕ) (r : Result Value ℕ) (v : Value) (c : ℕ) → run_result (after_cost n (given r)) ≡ Fine v c → r ≡ Ok v
+pub told_ok : (n : ℕ) (r : Result Value ℕ) (v : Value) (c : ℕ) → run_result (after_cost n (given r)) ≡ Fine v c
+    → r ≡ Ok v
 told_ok n (Ok x) v c e = let s : x ≡ v = cc in ap (λ z. Ok z) s
 told_ok n (Err f) v c e = absurd (cc)
 
@@ -155,7 +156,8 @@ IsReference (Word w) = ⊥
 IsReference Nil = Unit {0}
 IsReference (Name n) = Unit {0}
 
-reference : (program : Source) (store : Store) (v : Value) (k : Kind) → is_int k ≡ false → is_of_kind program store v k ≡ true
+reference : (program : Source) (store : Store) (v : Value) (k : Kind) → is_int k ≡ false
+    → is_of_kind program store v k ≡ true
     → IsReference v
 reference program store (Word w) k h f = absurd (let e : (is_int k && nat_lt w (2 ^ 32))
     ≡ false = ap (λ b. b && nat_lt w (2 ^ 32)) h in cc)
@@ -210,7 +212,8 @@ module _ (place : Place) (accepted : IsAccepted place.setting.program) (few : le
   new_int : (st : State) (var : Var) (v : Value) → kind_of_var program var ≡ kind.Int → IsInt v → IsNew st var v
   new_int st var v k i = record {
     fit = subst (λ z. is_of_kind program st.store z (kind_of_var program var) ≡ true) (sym i.is)
-        (subst (λ z. is_of_kind program st.store (Word i.word) z ≡ true) (sym k) (word_fits program st.store i.word i.small));
+        (subst (λ z. is_of_kind program st.store (Word i.word) z ≡ true) (sym k)
+        (word_fits program st.store i.word i.small));
     none = λ m. ap (one_if_name m) i.is;
     small = λ at. subst (λ z. value_word setting statics at z < 2 ^ 32) (sym i.is) i.small;
   }
@@ -429,7 +432,8 @@ module _ (place : Place) (accepted : IsAccepted place.setting.program) (few : le
 
     -- an int: its value, and the closing value
     own_int : kind_of_var program var ≡ kind.Int → IsInt has.value
-    own_int k = int_value program st.store has.value (subst (λ z. is_of_kind program st.store has.value z ≡ true) k has.fit)
+    own_int k = int_value program st.store has.value (subst (λ z. is_of_kind program st.store has.value z ≡ true) k
+        has.fit)
 
     int_none : kind_of_var program var ≡ kind.Int → (m : ℕ) → one_if_name m has.value ≡ 0
     int_none k m = let i = own_int k in ap (one_if_name m) i.is
@@ -467,7 +471,8 @@ module _ (place : Place) (accepted : IsAccepted place.setting.program) (few : le
         omega (arith, q)
 
     pub same_words : (e : Expression) → IsInit program s var e → (v : Value) (c : ℕ)
-        → run_result (evaluated program e (closed st)) ≡ Fine v c → same_value (read st (Slot 0)) v ≡ true → words_xor v ≡ 0
+        → run_result (evaluated program e (closed st)) ≡ Fine v c → same_value (read st (Slot 0)) v ≡ true
+        → words_xor v ≡ 0
     same_words e is v c t same = by is.value
       where
         ok : value program (closed st) e ≡ Ok v
@@ -497,7 +502,8 @@ module _ (place : Place) (accepted : IsAccepted place.setting.program) (few : le
         omega (arith, e, above_zero)
 
     pub other_words : (e : Expression) → IsInit program s var e → (v : Value) (c : ℕ)
-        → run_result (evaluated program e (closed st)) ≡ Fine v c → same_value (read st (Slot 0)) v ≡ false → words_xor v ≡ 0
+        → run_result (evaluated program e (closed st)) ≡ Fine v c → same_value (read st (Slot 0)) v ≡ false
+        → words_xor v ≡ 0
         → ⊥
     other_words e is v c t other z = by is.value
       where

@@ -18,7 +18,8 @@ use Rattle.method_calls.proofs.meaning_sound_laws.Lists.{all_inside}
 use Rattle.method_calls.proofs.meaning_sound_laws.Stores.{live_object}
 use Rattle.method_calls.proofs.meaning_sound_laws.Cells.{heads_written}
 use Rattle.method_calls.specs.refine_form.Form.{Scope, Moved}
-use Rattle.method_calls.specs.refine_form.Frames.{CallerFrame, Under, base, stack_base, address_of, value_word, values_of}
+use Rattle.method_calls.specs.refine_form.Frames.{CallerFrame, Under, base, stack_base, address_of, value_word}
+use Rattle.method_calls.specs.refine_form.Frames.{values_of}
 use Rattle.method_calls.specs.refine_form.Frames.{frame_words}
 use Rattle.method_calls.specs.refine_form.Frames.{callers_words, above_words, stack_words, memory, before_stack}
 use Rattle.method_calls.specs.refine_form.Frames.{StandsAt}
@@ -83,7 +84,8 @@ module _ (setting : Setting) (statics : List ℕ) where
     slot_there : (i : ℕ) (k : Kind) → cell_kind setting.program (shape_of setting.program s) st.store (Slot i) ≡ Some k
         → i < length st.frame
     slot_there i k e = let l = all_inside setting.program st.store (map local_type (shape_of setting.program s))
-        (map bound_value st.frame) i k h.keeps.variables e in let m = length-map st.frame bound_value in omega (arith, l, m)
+        (map bound_value st.frame) i k h.keeps.variables e in let m = length-map st.frame bound_value in
+        omega (arith, l, m)
 
     slot_is : (i : ℕ) → place_of at u st (Slot i) ≡ length
         (below setting statics at st.store u.callers u.put_by h.frame.put_long

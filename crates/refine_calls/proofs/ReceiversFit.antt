@@ -23,7 +23,8 @@ use Rattle.method_calls.specs.roopl_semantics.Store.{number_of, cleared}
 use Rattle.method_calls.specs.roopl_semantics.Value.{Cell, Slot, Part, read, written, with_value}
 use Rattle.method_calls.specs.roopl_semantics.Layout.{no_placing}
 use Rattle.method_calls.specs.roopl_semantics.Execution.{Setting, bound}
-use Rattle.method_calls.specs.meaning_sound.Sound.{named_fits, head_named, is_of_kind, local_type, bound_value, cell_kind}
+use Rattle.method_calls.specs.meaning_sound.Sound.{named_fits, head_named, is_of_kind, local_type, bound_value}
+use Rattle.method_calls.specs.meaning_sound.Sound.{cell_kind}
 use Rattle.method_calls.proofs.meaning_sound_laws.Lists.{all_inside}
 use Rattle.method_calls.proofs.meaning_sound_laws.Stores.{other_number, changed_here}
 use Rattle.method_calls.proofs.meaning_sound_laws.Cells.{part_of, heads_written, read_fits, kind_stays, value_at_is}
@@ -37,9 +38,11 @@ use Rattle.method_calls.specs.refine_form.Frames.{cell_in}
 use Rattle.method_calls.specs.refine_form.Frames.{OpenFrame, spare_words}
 use Rattle.method_calls.specs.refine_form.Stands.{shape_of, extra, moved_values, spot_in, setup, Kept, Reads, Stands}
 use Rattle.method_calls.specs.refine_form.Worlds.{Place, world_of}
-use Rattle.method_calls.specs.Facts.{ReceiverWords, OnFacts, ReceiverFacts, ReceiverGoesOn, ReturnsReceiver, HasPlace, address}
+use Rattle.method_calls.specs.Facts.{ReceiverWords, OnFacts, ReceiverFacts, ReceiverGoesOn, ReturnsReceiver, HasPlace}
+use Rattle.method_calls.specs.Facts.{address}
 use Rattle.method_calls.specs.Facts.{out_from}
-use Rattle.method_calls.specs.Names.{IsReceiver, IsVariable, class_number_named, class_found, method_slot_of, deeper, deeper_on}
+use Rattle.method_calls.specs.Names.{IsReceiver, IsVariable, class_number_named, class_found, method_slot_of, deeper}
+use Rattle.method_calls.specs.Names.{deeper_on}
 use Rattle.method_calls.specs.Names.{known_calls_of, receivers_of}
 use Rattle.refine_calls.specs.Laws.{Route, IsLinked}
 use Rattle.refine_calls.proofs.FramesFit.{enters, leaves, object_word, put_object}
@@ -71,7 +74,8 @@ is_of program (Some (OfInts n)) class e = absurd (cc)
 is_of program (Some (OfObjects own n)) class e = absurd (cc)
 
 -- a value of a class is nil or a name
-name_there : (program : Source) (store : Store) (class : ℕ) (v : Value) → is_of_kind program store v (kind.Class class) ≡ true
+name_there : (program : Source) (store : Store) (class : ℕ) (v : Value)
+    → is_of_kind program store v (kind.Class class) ≡ true
     → is_nil v ≡ false → v ≡ Name (number_of v)
 name_there program store class (Word w) f e = absurd (cc)
 name_there program store class Nil f e = absurd (cc)
@@ -218,7 +222,8 @@ module _ (place : Place) (routine : ℕ → Ident → ℕ) (linked : IsLinked pl
 
     -- the object that it names
     pub names : (n : ℕ) → read st c ≡ Name n → IsOf program (head_named st.store n) r.class
-    names n e = is_of program (head_named st.store n) r.class (subst (λ v. is_of_kind program st.store v k ≡ true) e fit)
+    names n e = is_of program (head_named st.store n) r.class
+        (subst (λ v. is_of_kind program st.store v k ≡ true) e fit)
 
     module _ (n : ℕ) (there : read st c ≡ Name n) (after : State)
         (same : (m : ℕ) → head_named after.store m ≡ head_named st.store m) where
@@ -730,7 +735,8 @@ module _ (place : Place) (routine : ℕ → Ident → ℕ) (linked : IsLinked pl
   -- the callee's code address is in the table of the receiver's class
   pub place_on : (s : Scope) (u : Under) (st end : State) (cells : List ℕ) (x name : Ident) (args : List Ident) (n : ℕ)
       → Stands setting statics (scope_on st n name) (deeper_on place s u st n) [] end cells
-      → (r : IsReceiver program s x name args) → is_or_inherits program (own_of st n) (class_number_named program s x) ≡ true
+      → (r : IsReceiver program s x name args) → is_or_inherits program (own_of st n) (class_number_named program s x)
+      ≡ true
       → HasPlace cells (deeper_on place s u st n).object (method_slot_of program (class_number_named program s x) name)
       (routines.top (routine (own_of st n) name) + 1)
   place_on s u st end cells x name args n o r suits =
@@ -749,7 +755,8 @@ module _ (place : Place) (routine : ℕ → Ident → ℕ) (linked : IsLinked pl
 
   pub as_many_on : (s : Scope) (u : Under) (st end : State) (cells : List ℕ) (x name : Ident) (args : List Ident)
       (n : ℕ) → Stands setting statics (scope_on st n name) (deeper_on place s u st n) [] end cells
-      → (r : IsReceiver program s x name args) → is_or_inherits program (own_of st n) (class_number_named program s x) ≡ true
+      → (r : IsReceiver program s x name args) → is_or_inherits program (own_of st n) (class_number_named program s x)
+      ≡ true
       → length (map (λ (b : Binding). b.value) end.frame) ≡ length args
   as_many_on s u st end cells x name args n o r suits =
       let own = own_of st n in

@@ -10,8 +10,10 @@ use Rattle.refine_calls.specs.rpp_tree.Tree.{Expression, Number, Null, Variable,
 use Rattle.refine_calls.specs.class_rules.declared.kind.Kind.{Kind}
 use Rattle.refine_calls.specs.class_rules.declared.kind.Kind.TheVariants as kind
 use Rattle.refine_calls.specs.class_rules.Refusal.{type_differs, refused_operator}
-use Rattle.refine_calls.specs.class_rules.Expressions.{is_int, element_kind, variable_type, type_of, element_kind_of as element_type}
-use Rattle.refine_calls.specs.class_rules.Expressions.{index_is_int, first_token, is_comparison, is_refused, operands_fit, compares}
+use Rattle.refine_calls.specs.class_rules.Expressions.{is_int, element_kind, variable_type, type_of}
+use Rattle.refine_calls.specs.class_rules.Expressions.{element_kind_of as element_type}
+use Rattle.refine_calls.specs.class_rules.Expressions.{index_is_int, first_token, is_comparison, is_refused}
+use Rattle.refine_calls.specs.class_rules.Expressions.{operands_fit, compares}
 use Rattle.refine_calls.specs.class_rules.Expressions.{place_type}
 use Rattle.refine_calls.proofs.class_rules_laws.PassedRules.{handed_on, both_true, int_kind, some_of}
 use Rattle.refine_calls.specs.buddy_book.Place.{block_of}
@@ -120,7 +122,8 @@ module _ (setting : Setting) (statics : List ℕ) (few : length statics ≤ MOST
       (a.apart, a.length_word, a.elements)
 
   array_sees : (name : Ident) (index : Expression) (k : Kind) (p : ElementParts name index k) (v : Value)
-      → variable_value P st name.text ≡ v → IsArray (visible_spot P s) B low cells (word_of (visible_spot P s) B cells name.text)
+      → variable_value P st name.text ≡ v → IsArray (visible_spot P s) B low cells
+      (word_of (visible_spot P s) B cells name.text)
   array_sees name index k p (Word w) e = absurd (no_word p.array k w p.element_is
       (subst (λ v. is_of_kind P st.store v p.array ≡ true) e (read_fits setting (extra u []) S s.class st
       (cell_named P st name.text) p.array t0 (named_has setting statics classes s u st cells h name p.array
@@ -153,7 +156,8 @@ module _ (setting : Setting) (statics : List ℕ) (few : length statics ≤ MOST
   equation : (o : BinOp) → is_comparison o ≡ true → is_equation o ≡ true
   equation o e = e
 
-  operands : (o : BinOp) (a b : Kind) (x y : Value) → operands_fit T.table o a b ≡ true → is_of_kind P st.store x a ≡ true
+  operands : (o : BinOp) (a b : Kind) (x y : Value) → operands_fit T.table o a b ≡ true
+      → is_of_kind P st.store x a ≡ true
       → is_of_kind P st.store y b ≡ true
       → (is_int a ≡ false → IsRef (setup setting statics) (extra u []) S s.class st t0 h.keeps.main_unheld x)
       → (is_int b ≡ false → IsRef (setup setting statics) (extra u []) S s.class st t0 h.keeps.main_unheld y)
@@ -229,7 +233,8 @@ module _ (setting : Setting) (statics : List ℕ) (few : length statics ≤ MOST
   refers e k v q none r = value_refers (setup setting statics) classes (extra u []) S S s.class h.keeps.class_inside
       (same_means S) st t0 h.keeps.main_unheld e k v q none r
 
-  pub means : (e : Expression) (k : Kind) → HasWords e → type_of T S e ≡ Ok k → Means A L P st (visible_spot P s) B cells e
+  pub means : (e : Expression) (k : Kind) → HasWords e → type_of T S e ≡ Ok k
+      → Means A L P st (visible_spot P s) B cells e
   means (Number at word) k w q = tt
   means (Null at) k w q = tt
   means (Variable name) k w q = name_word setting statics classes s u st cells h name k q

@@ -198,7 +198,8 @@ module _ (p : Place) (few : length p.statics ≤ MOST_STATICS) (classes : KnowsC
       rules = swap_typed p.setting classes (context p classes s u st m.cells g) at left right ok.rules
 
       can : CanEvaluate spot free (place_words left + place_words right) (lvalue_read left) (lvalue_read right) m
-      can = subst (λ z. CanEvaluate spot free (place_words left + place_words right) (lvalue_read left) (lvalue_read right) z)
+      can = subst (λ z. CanEvaluate spot free (place_words left + place_words right) (lvalue_read left)
+          (lvalue_read right) z)
           (sym (known p classes s u st m r)) (record {
             ready = ready p few classes s u st m.cells g (place_words left + place_words right) 0 0 ok.room;
             first = sees_place p.setting p.statics few classes s u st m.cells g left rules.kind ok.has_words.0

@@ -34,7 +34,8 @@ use Rattle.expr_uncompute.specs.register_expressions.Laws.{Temporary, Ready}
 use Rattle.expr_uncompute.specs.Means.{shown, IsInt}
 use Rattle.expr_uncompute.specs.Promises as code
 use Rattle.expr_uncompute.proofs.Meeting.{told_value, told_test, value_meets, test_meets}
-use Rattle.refine_calls.specs.refine_form.Form.{World, Scope, registers, bit, run_result, flagged, holding, TestLaw, ValueLaw}
+use Rattle.refine_calls.specs.refine_form.Form.{World, Scope, registers, bit, run_result, flagged, holding, TestLaw}
+use Rattle.refine_calls.specs.refine_form.Form.{ValueLaw}
 use Rattle.refine_calls.specs.refine_form.Form.{test_rates}
 use Rattle.refine_calls.specs.refine_form.Frames.{Under, base}
 use Rattle.refine_calls.specs.refine_form.Stands.{setup, Reads}
@@ -170,7 +171,8 @@ module _ (p : Place) (few : length p.statics ≤ MOST_STATICS) (classes : KnowsC
       (value_is p.setting p.statics few classes s u st cells h e kind.Int ok.has_words ok.typed) in
       will_more p.im q d m _ _ (λ o k. meets_told _ _ (told_tested (nodes e) (value P st e))
       (meets_slack 50 (omega arith) (meets_as (λ t m1 c z r. r ∙ ap (flag_memory u cells) (truth_xor v t)) k)))
-      (test_meets (A s u st cells h) (L s u st cells h) P (visible_spot P s) (free_in_scope P s) (test_rates w) (many_counts _)
+      (test_meets (A s u st cells h) (L s u st cells h) P (visible_spot P s) (free_in_scope P s) (test_rates w)
+      (many_counts _)
       (omega arith) 11 e q p.im d m st
       (ready s u st cells h (words e) (bit v) 0 ok.room)
       (sees p.setting p.statics few classes s u st cells h e kind.Int ok.has_words ok.typed)
@@ -185,7 +187,8 @@ module _ (p : Place) (few : length p.statics ≤ MOST_STATICS) (classes : KnowsC
       (meets_slack 50 (omega arith) (meets_as (λ v m1 c z r. r
       ∙ ap (λ y. word_memory u cells (bit_xor x y)) (word_told s u st cells h e k ok v
       (value_of_told (nodes e) (value P st e) v c z))) g)))
-      (value_meets (A s u st cells h) (L s u st cells h) P (visible_spot P s) (free_in_scope P s) (test_rates w) (many_counts _)
+      (value_meets (A s u st cells h) (L s u st cells h) P (visible_spot P s) (free_in_scope P s) (test_rates w)
+      (many_counts _)
       (omega arith) 12 e q p.im d m st
       (ready s u st cells h (words e) 0 x ok.room)
       (sees p.setting p.statics few classes s u st cells h e k ok.has_words ok.typed)

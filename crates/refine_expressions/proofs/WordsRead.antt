@@ -18,12 +18,15 @@ use Rattle.refine_calls.specs.class_rules.Program.{setting_in}
 use Rattle.refine_calls.proofs.class_rules_laws.PassedRules.{some_of}
 use Rattle.refine_calls.specs.buddy_book.Place.{Placing, place, block_of}
 use Rattle.refine_calls.specs.pisa_isa.Loaded.{statics_at}
-use Rattle.refine_calls.specs.roopl_semantics.Store.{Value, Word, Nil, Name, Head, OfClass, OfInts, OfObjects, State, main_name}
+use Rattle.refine_calls.specs.roopl_semantics.Store.{Value, Word, Nil, Name, Head, OfClass, OfInts, OfObjects, State}
+use Rattle.refine_calls.specs.roopl_semantics.Store.{main_name}
 use Rattle.refine_calls.specs.roopl_semantics.Store.{object_at}
-use Rattle.refine_calls.specs.roopl_semantics.Value.{Cell, Slot, Part, cell_named, slot_of, slot_or_field, variable_value, read}
+use Rattle.refine_calls.specs.roopl_semantics.Value.{Cell, Slot, Part, cell_named, slot_of, slot_or_field}
+use Rattle.refine_calls.specs.roopl_semantics.Value.{variable_value, read}
 use Rattle.refine_calls.specs.roopl_semantics.Layout.{head_word, no_placing}
 use Rattle.refine_calls.specs.roopl_semantics.Execution.{Setting}
-use Rattle.refine_calls.specs.meaning_sound.Sound.{head_of, head_named, head_fits, named_fits, is_of_kind, cell_kinds, cell_kind}
+use Rattle.refine_calls.specs.meaning_sound.Sound.{head_of, head_named, head_fits, named_fits, is_of_kind, cell_kinds}
+use Rattle.refine_calls.specs.meaning_sound.Sound.{cell_kind}
 use Rattle.refine_calls.specs.meaning_sound.Sound.{part_kind}
 use Rattle.refine_calls.proofs.meaning_sound_laws.Classes.{KnowsClasses}
 use Rattle.refine_calls.proofs.meaning_sound_laws.Lists.{all_length}
@@ -155,7 +158,8 @@ module _ (setting : Setting) (statics : List ℕ) (classes : KnowsClasses settin
             ∙ ap (λ r. place_of setting statics at u st (slot_or_field program st name.text r)) (sym e)
 
     -- it is below the free words
-    pub name_low : spot_address bases (visible_spot program s name.text) < frame_address setting statics u + free_in_scope program
+    pub name_low : spot_address bases (visible_spot program s name.text) < frame_address setting statics u +
+        free_in_scope program
         s
     name_low =
         let l = cell_low setting statics s u st cells h (cell_named program st name.text) k named_has in

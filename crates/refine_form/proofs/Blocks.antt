@@ -13,7 +13,8 @@ use Rattle.paired_code.proofs.Small.{runs_still, runs_empty}
 use Rattle.paired_code.proofs.Does.{will_last}
 use Rattle.refine_frame.specs.roopl_semantics.Store.{State}
 use Rattle.refine_frame.specs.roopl_semantics.Execution.{exec, statement}
-use Rattle.refine_form.specs.Form.{World, Scope, HasOpenFrame, Owes, RunsBody, StmtLaw, BlockLaw, AllMethods, run_result, one}
+use Rattle.refine_form.specs.Form.{World, Scope, HasOpenFrame, Owes, RunsBody, StmtLaw, BlockLaw, AllMethods}
+use Rattle.refine_form.specs.Form.{run_result, one}
 use Rattle.refine_form.proofs.Told.{alone, told_block, told_joined, count, cost_counts, plus_fine, told_after}
 use Rattle.refine_form.proofs.Rules.{meets_less, meets_told, meets_then}
 
@@ -67,7 +68,8 @@ module _ (w : World) (s : Scope) (first : Statement) (rest : Statements) (p q : 
       ((hp j (owes_less w n (suc j) l owes) true u).does st m h)
 
   backward : (n : ℕ) → Owes w n → (u : w.Under) (st : State) (m : Memory) → Here u st m
-      → Will w.im (p ++ q) true m (Meets (Here u) w.rates n 0 (run_result (exec w.setting n (inverse (Then first rest)) st)))
+      → Will w.im (p ++ q) true m (Meets (Here u) w.rates n 0
+      (run_result (exec w.setting n (inverse (Then first rest)) st)))
   backward n owes u st m h =
       let before = inverse rest in
       let g : ℕ → State → RunResult State = λ c a. run_result (exec w.setting (n - count before)

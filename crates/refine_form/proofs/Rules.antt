@@ -46,7 +46,8 @@ meets_as f (fine {a = a} {m = m} {c = c} r l u) = fine (f a m c refl r) l u
 meets_as f (faults u) = faults u
 meets_as f (more l) = more l
 
-pub meets_told : {A : Type 0} {R : A → Memory → Type 0} {b : Rates} {n x : ℕ} {o : Outcome} (t t' : RunResult A) → t ≡ t'
+pub meets_told : {A : Type 0} {R : A → Memory → Type 0} {b : Rates} {n x : ℕ} {o : Outcome} (t t' : RunResult A)
+    → t ≡ t'
     → Meets R b n x t o → Meets R b n x t' o
 meets_told {R = R} {b = b} {n = n} {x = x} {o = o} t t' e h = subst (λ z. Meets R b n x z o) e h
 
@@ -63,7 +64,8 @@ next_known ps x y g s (more h) = more h
 
 -- one part, and the others
 pub meets_then : {A B : Type 0} (im : Image) (d : Bool) (R1 : A → Memory → Type 0) (R2 : B → Memory → Type 0)
-    (b : Rates) (n x y : ℕ) (p : List Symbol) (ps : List (List Symbol)) (m : Memory) (t : RunResult A) (g : ℕ → A → RunResult B)
+    (b : Rates) (n x y : ℕ) (p : List Symbol) (ps : List (List Symbol)) (m : Memory) (t : RunResult A)
+    (g : ℕ → A → RunResult B)
     → Will im p d m (Meets R1 b n x t) → ((c : ℕ) (a : A) (m1 : Memory) → t ≡ Fine a c → R1 a m1
     → Will im (in_order d ps) d m1 (Meets R2 b (n - c) y (g c a)))
     → Will im (in_order d (p ∷ ps)) d m (Meets R2 b n (x + y) (told_then t g))
@@ -71,8 +73,10 @@ meets_then im d R1 R2 b n x y p ps m t g w s = will_first im d p ps m _
     (will_more im p d m _ _ (λ o q. next_known ps x y g s q) w)
 
 -- a part of which the source says only a cost
-pub meets_spent : {A : Type 0} {R : A → Memory → Type 0} {b : Rates} {n y k : ℕ} {t : RunResult A} {o : Outcome} (c x : ℕ)
-    → 1 ≤ b.counts → c ≤ k → k + y ≤ b.steps * c + x → Meets R b n y t o → Meets R b (n + c) x (plus c t) (outcome_after k o)
+pub meets_spent : {A : Type 0} {R : A → Memory → Type 0} {b : Rates} {n y k : ℕ} {t : RunResult A} {o : Outcome}
+    (c x : ℕ)
+    → 1 ≤ b.counts → c ≤ k → k + y ≤ b.steps * c + x → Meets R b n y t o
+    → Meets R b (n + c) x (plus c t) (outcome_after k o)
 meets_spent {b = b} {k = k} c x hb hc hk (fine {c = c2} {k = k2} r l u) =
     fine r (omega (arith, at_least b.counts k hb, mul-add b.counts k k2)) (omega (arith, mul-add b.steps c c2))
   where
@@ -93,10 +97,12 @@ meets_spent {b = b} {k = k} c x hb hc hk (more {k = k2} l) =
 
 -- a part, and then others, by outcomes
 pub will_next : (im : Image) (d : Bool) (p : List Symbol) (ps : List (List Symbol)) (m m1 : Memory) (k : ℕ)
-    (Q : Outcome → Type 0) → Will im p d m (λ o. o ≡ Done m1 k) → Will im (in_order d ps) d m1 (λ o. Q (outcome_after k o))
+    (Q : Outcome → Type 0) → Will im p d m (λ o. o ≡ Done m1 k)
+    → Will im (in_order d ps) d m1 (λ o. Q (outcome_after k o))
     → Will im (in_order d (p ∷ ps)) d m Q
 will_next im d p ps m m1 k Q w s = will_first im d p ps m Q
-    (will_more im p d m _ _ (λ o e. subst (Next (λ m2 k2. Will im (in_order d ps) d m2 (λ o. Q (outcome_after k2 o))) Q) (sym e)
+    (will_more im p d m _ _ (λ o e. subst (Next (λ m2 k2. Will im (in_order d ps) d m2 (λ o. Q (outcome_after k2 o))) Q)
+    (sym e)
     s) w)
 
 -- a fragment run forward, another, and the first one back: so in both directions
@@ -111,8 +117,10 @@ will_around im false w mid m Q h =
     inner : (m2 : Memory) (Q' : Outcome → Type 0) → Will im w true m2 Q' → Will im (mirror_cells w) false m2 Q'
     inner m2 Q' k = will_mirror im w false m2 Q' k
 
-    mid_next : (k1 : ℕ) (o : Outcome) → Next (λ m2 k2. Will im w true m2 (λ o. Q (outcome_after k1 (outcome_after k2 o))))
-        (λ o. Q (outcome_after k1 o)) o → Next (λ m2 k2. Will im (mirror_cells w) false m2 (λ o. Q (outcome_after k1 (outcome_after k2 o))))
+    mid_next : (k1 : ℕ) (o : Outcome) → Next (λ m2 k2. Will im w true m2
+        (λ o. Q (outcome_after k1 (outcome_after k2 o))))
+        (λ o. Q (outcome_after k1 o)) o → Next (λ m2 k2. Will im (mirror_cells w) false m2
+        (λ o. Q (outcome_after k1 (outcome_after k2 o))))
         (λ o. Q (outcome_after k1 o)) o
     mid_next k1 (Done m2 k2) q = inner m2 _ q
     mid_next k1 (Trapped v k) q = q
@@ -120,7 +128,8 @@ will_around im false w mid m Q h =
     mid_next k1 (Still k) q = q
 
     go : (o : Outcome) → Next (λ m1 k1. Will im mid false m1
-        (Next (λ m2 k2. Will im w true m2 (λ o. Q (outcome_after k1 (outcome_after k2 o)))) (λ o. Q (outcome_after k1 o)))) Q o
+        (Next (λ m2 k2. Will im w true m2 (λ o. Q (outcome_after k1 (outcome_after k2 o))))
+        (λ o. Q (outcome_after k1 o)))) Q o
         → Next (λ m1 k1. Will im (mid ++ mirror_cells w) false m1 (λ o. Q (outcome_after k1 o))) Q o
     go (Done m1 k1) q = will_seq im mid (mirror_cells w) m1 (λ o. Q (outcome_after k1 o))
         (will_more im mid false m1 _ _ (λ o r. mid_next k1 o r) q)
@@ -132,13 +141,16 @@ will_around im true w mid m Q h =
     (will_seq_back im (w ++ mid) (mirror_cells w) m Q (will_mirror im w true m _
     (will_more im w false m _ _ (λ o q. go o q) h)))
   where
-    mid_next : (k1 : ℕ) (o : Outcome) → Next (λ m2 k2. Will im w true m2 (λ o. Q (outcome_after k1 (outcome_after k2 o))))
-        (λ o. Q (outcome_after k1 o)) o → Next (λ m2 k2. Will im w true m2 (λ o. Q (outcome_after k1 (outcome_after k2 o))))
+    mid_next : (k1 : ℕ) (o : Outcome) → Next (λ m2 k2. Will im w true m2
+        (λ o. Q (outcome_after k1 (outcome_after k2 o))))
+        (λ o. Q (outcome_after k1 o)) o → Next (λ m2 k2. Will im w true m2
+        (λ o. Q (outcome_after k1 (outcome_after k2 o))))
         (λ o. Q (outcome_after k1 o)) o
     mid_next k1 o q = q
 
     go : (o : Outcome) → Next (λ m1 k1. Will im mid true m1
-        (Next (λ m2 k2. Will im w true m2 (λ o. Q (outcome_after k1 (outcome_after k2 o)))) (λ o. Q (outcome_after k1 o)))) Q o
+        (Next (λ m2 k2. Will im w true m2 (λ o. Q (outcome_after k1 (outcome_after k2 o))))
+        (λ o. Q (outcome_after k1 o)))) Q o
         → Next (λ m1 k1. Will im (w ++ mid) true m1 (λ o. Q (outcome_after k1 o))) Q o
     go (Done m1 k1) q = will_seq_back im w mid m1 (λ o. Q (outcome_after k1 o)) q
     go (Trapped v k) q = q
@@ -147,14 +159,16 @@ will_around im true w mid m Q h =
 
 -- one part and the next, if the first is known
 pub will_two : (im : Image) (p q : List Symbol) (m m1 : Memory) (k : ℕ) (Q : Outcome → Type 0)
-    → Will im p false m (λ o. o ≡ Done m1 k) → Will im q false m1 (λ o. Q (outcome_after k o)) → Will im (p ++ q) false m Q
+    → Will im p false m (λ o. o ≡ Done m1 k) → Will im q false m1 (λ o. Q (outcome_after k o))
+    → Will im (p ++ q) false m Q
 will_two im p q m m1 k Q w s = will_seq im p q m Q (will_more im p false m _ _
     (λ o e. subst (Next (λ m2 k2. Will im q false m2 (λ o. Q (outcome_after k2 o))) Q) (sym e) s) w)
 
 pub will_two_back : (im : Image) (p q : List Symbol) (m m1 : Memory) (k : ℕ) (Q : Outcome → Type 0)
     → Will im q true m (λ o. o ≡ Done m1 k) → Will im p true m1 (λ o. Q (outcome_after k o)) → Will im (p ++ q) true m Q
 will_two_back im p q m m1 k Q w s = will_seq_back im p q m Q
-    (will_more im q true m _ _ (λ o e. subst (Next (λ m2 k2. Will im p true m2 (λ o. Q (outcome_after k2 o))) Q) (sym e) s) w)
+    (will_more im q true m _ _ (λ o e. subst (Next (λ m2 k2. Will im p true m2 (λ o. Q (outcome_after k2 o))) Q) (sym e)
+    s) w)
 
 -- one around another, in a direction, if the outer parts are known
 pub will_in : (im : Image) (d : Bool) (v mid : List Symbol) (m m1 m2 m3 : Memory) (k1 k k2 : ℕ)
@@ -164,8 +178,10 @@ will_in im d v mid m m1 m2 m3 k1 k k2 a b c =
     let Q : Outcome → Type 0 = λ o. o ≡ Done m3 (k1 + (k + k2)) in
     will_around im d v mid m Q (will_more im v false m _ _
     (λ o e. subst (Next (λ m1 k1. Will im mid d m1 (Next
-    (λ m2 k2. Will im v true m2 (λ o. Q (outcome_after k1 (outcome_after k2 o)))) (λ o. Q (outcome_after k1 o)))) Q) (sym e)
-    (will_more im mid d m1 _ _ (λ o e. subst (Next (λ m2 k2. Will im v true m2 (λ o. Q (outcome_after k1 (outcome_after k2 o))))
+    (λ m2 k2. Will im v true m2 (λ o. Q (outcome_after k1 (outcome_after k2 o)))) (λ o. Q (outcome_after k1 o)))) Q)
+    (sym e)
+    (will_more im mid d m1 _ _ (λ o e. subst (Next (λ m2 k2. Will im v true m2
+    (λ o. Q (outcome_after k1 (outcome_after k2 o))))
     (λ o. Q (outcome_after k1 o))) (sym e)
     (will_more im v true m2 _ _ (λ o e. ap (λ o. outcome_after k1 (outcome_after k o)) e) c)) b)) a)
 
@@ -177,8 +193,10 @@ will_in_trap im d v mid m m1 k1 code K a b =
     let Q : Outcome → Type 0 = λ o. (k : ℕ) × (k ≤ k1 + K) × (o ≡ Trapped code k) in
     will_around im d v mid m Q (will_more im v false m _ _
     (λ o e. subst (Next (λ m1 k1. Will im mid d m1 (Next
-    (λ m2 k2. Will im v true m2 (λ o. Q (outcome_after k1 (outcome_after k2 o)))) (λ o. Q (outcome_after k1 o)))) Q) (sym e)
-    (will_more im mid d m1 _ _ (λ o t. subst (Next (λ m2 k2. Will im v true m2 (λ o. Q (outcome_after k1 (outcome_after k2 o))))
+    (λ m2 k2. Will im v true m2 (λ o. Q (outcome_after k1 (outcome_after k2 o)))) (λ o. Q (outcome_after k1 o)))) Q)
+    (sym e)
+    (will_more im mid d m1 _ _ (λ o t. subst (Next (λ m2 k2. Will im v true m2
+    (λ o. Q (outcome_after k1 (outcome_after k2 o))))
     (λ o. Q (outcome_after k1 o))) (sym t.2) (k1 + t.0, (let h = t.1 in omega arith), refl)) b)) a)
 
 -- steps of which the source says nothing
@@ -215,7 +233,8 @@ wraps im d w mid m m1 R R' b n x y k1 t g first middle last =
     let Q : Outcome → Type 0 = λ o. Meets R' b n (k1 + (x + y)) (told_then t (λ c a. g a)) o in
     will_around im d w mid m Q (will_more im w false m _ _
     (λ o e. subst (Next (λ m1 k1. Will im mid d m1 (Next
-    (λ m2 k2. Will im w true m2 (λ o. Q (outcome_after k1 (outcome_after k2 o)))) (λ o. Q (outcome_after k1 o)))) Q) (sym e)
+    (λ m2 k2. Will im w true m2 (λ o. Q (outcome_after k1 (outcome_after k2 o)))) (λ o. Q (outcome_after k1 o)))) Q)
+    (sym e)
     (will_more im mid d m1 _ _ (λ o h. wrap_next w k1 y g last h) middle)) first)
 
 -- the same, if the part before pays for a count
@@ -224,7 +243,8 @@ spent_next : {A B : Type 0} {im : Image} {R : A → Memory → Type 0} {R' : B �
     → k1 + (x + y) ≤ b.steps * c + x' → ((a : A) (m2 : Memory) (c : ℕ) → t ≡ Fine a c → R a m2
     → Will im w true m2 (Meets R' b (n - c) y (g a))) → Meets R b n x t o
     → Next (λ m2 k2. Will im w true m2 (λ o. Meets R' b (n + c) x' (plus c (told_then t (λ c a. g a)))
-    (outcome_after k1 (outcome_after k2 o)))) (λ o. Meets R' b (n + c) x' (plus c (told_then t (λ c a. g a))) (outcome_after k1 o)) o
+    (outcome_after k1 (outcome_after k2 o)))) (λ o. Meets R' b (n + c) x' (plus c (told_then t (λ c a. g a)))
+    (outcome_after k1 o)) o
 spent_next {im = im} {x = x} w k1 y c x' g hb hc hk s (fine {a = a} {m = m2} {c = c2} r l u) =
     will_more im w true m2 _ _ (λ o q. meets_spent c x' hb hc hk (meets_plus x l u q)) (s a m2 c2 refl r)
 spent_next {R' = R'} {b = b} {n = n} {x = x} w k1 y c x' g hb hc hk s (faults {w = v} {c = c2} {k = k} u) =
@@ -233,7 +253,8 @@ spent_next {R' = R'} {b = b} {n = n} {x = x} w k1 y c x' g hb hc hk s (more l) =
     meets_spent {R = R'} {b = b} {n = n} {y = x + y} c x' hb hc hk (more l)
 
 pub wraps_spent : {A B : Type 0} (im : Image) (d : Bool) (w mid : List Symbol) (m m1 : Memory) (R : A → Memory → Type 0)
-    (R' : B → Memory → Type 0) (b : Rates) (n x y k1 c x' : ℕ) (t : RunResult A) (g : A → RunResult B) → 1 ≤ b.counts → c ≤ k1
+    (R' : B → Memory → Type 0) (b : Rates) (n x y k1 c x' : ℕ) (t : RunResult A) (g : A → RunResult B) → 1 ≤ b.counts
+    → c ≤ k1
     → k1 + (x + y) ≤ b.steps * c + x' → Will im w false m (λ o. o ≡ Done m1 k1) → Will im mid d m1 (Meets R b n x t)
     → ((a : A) (m2 : Memory) (c : ℕ) → t ≡ Fine a c → R a m2 → Will im w true m2 (Meets R' b (n - c) y (g a)))
     → Will im (around w mid) d m (Meets R' b (n + c) x' (plus c (told_then t (λ c a. g a))))
@@ -241,7 +262,8 @@ wraps_spent im d w mid m m1 R R' b n x y k1 c x' t g hb hc hk first middle last 
     let Q : Outcome → Type 0 = λ o. Meets R' b (n + c) x' (plus c (told_then t (λ c a. g a))) o in
     will_around im d w mid m Q (will_more im w false m _ _
     (λ o e. subst (Next (λ m1 k1. Will im mid d m1 (Next
-    (λ m2 k2. Will im w true m2 (λ o. Q (outcome_after k1 (outcome_after k2 o)))) (λ o. Q (outcome_after k1 o)))) Q) (sym e)
+    (λ m2 k2. Will im w true m2 (λ o. Q (outcome_after k1 (outcome_after k2 o)))) (λ o. Q (outcome_after k1 o)))) Q)
+    (sym e)
     (will_more im mid d m1 _ _ (λ o h. spent_next w k1 y c x' g hb hc hk last h) middle)) first)
 
 -- ---- an outcome that comes some steps later, before its cost unit is observed
@@ -259,7 +281,8 @@ late_next : {A B : Type 0} {im : Image} {d : Bool} {R1 : A → Memory → Type 0
     {n : ℕ} {t : RunResult A} {o : Outcome} (j : ℕ) (ps : List (List Symbol)) (x y : ℕ) (g : ℕ → A → RunResult B)
     → ((c : ℕ) (a : A) (m : Memory) → t ≡ Fine a c → R1 a m
     → Will im (in_order d ps) d m (Meets R2 b (n - c) y (g c a))) → Meets R1 b n x t o
-    → Next (λ m1 k. Will im (in_order d ps) d m1 (λ o. Late j (Meets R2 b n (x + y) (told_then t g)) (outcome_after k o)))
+    → Next (λ m1 k. Will im (in_order d ps) d m1 (λ o. Late j (Meets R2 b n (x + y) (told_then t g))
+    (outcome_after k o)))
     (Late j (Meets R2 b n (x + y) (told_then t g))) (outcome_after j o)
 late_next {im = im} {d = d} {R2 = R2} {b = b} {n = n} {t = t} j ps x y g s (fine {a = a} {m = m} {c = c} {k = k} r h l)
     = will_more im (in_order d ps) d m _ _ (λ o q. subst (Late j (Meets R2 b n (x + y) (plus c (g c a))))
@@ -281,6 +304,7 @@ late_then im d R1 R2 b n x y j p ps m t g w s =
     let W : Memory → ℕ → Type 0 = λ m1 k. Will im (in_order d ps) d m1 (λ o. P (outcome_after k o)) in
     will_first im d p ps m P (will_more im p d m _ _ (λ o q. of_late W P (λ o h. late_next j ps x y g s h) q) w)
 
-pub late_counts : {A : Type 0} {R : A → Memory → Type 0} {b : Rates} {n x j : ℕ} {t : RunResult A} {o : Outcome} (c x' : ℕ)
+pub late_counts : {A : Type 0} {R : A → Memory → Type 0} {b : Rates} {n x j : ℕ} {t : RunResult A} {o : Outcome}
+    (c x' : ℕ)
     → 1 ≤ b.counts → c ≤ j → j + x ≤ b.steps * c + x' → Late j (Meets R b n x t) o → Meets R b (n + c) x' (plus c t) o
 late_counts c x' hb hc hk (late h) = meets_spent c x' hb hc hk h

@@ -12,7 +12,8 @@ told_after n (Done a c) = refl
 told_after n (FaultRun w c) = refl
 told_after n MoreRun = refl
 
-pub told_bind : {A B : Type 0} (r : Run A) (g : A → Run B) → run_result (r >>= g) ≡ told_then (run_result r) (λ c a. run_result (g a))
+pub told_bind : {A B : Type 0} (r : Run A) (g : A → Run B)
+    → run_result (r >>= g) ≡ told_then (run_result r) (λ c a. run_result (g a))
 told_bind (Done a c) g = told_after c (g a)
 told_bind (FaultRun w c) g = refl
 told_bind MoreRun g = refl
@@ -109,7 +110,8 @@ told_joined setting (suc n) (Then s a) b st =
     (λ st2. run_result (exec setting (n - count a) b st2)))
     ∙ ap (λ t. told_then t (λ c st2. run_result (exec setting (n - count a) b st2))) (sym (told_block setting n s a st))
     ∙ (let e : n - count a ≡ suc n - suc (count a) = omega arith in
-    ap (λ k. told_then (run_result (exec setting (suc n) (Then s a) st)) (λ c st2. run_result (exec setting k b st2))) e)
+    ap (λ k. told_then (run_result (exec setting (suc n) (Then s a) st)) (λ c st2. run_result (exec setting k b st2)))
+    e)
 
 -- a block that ends counts each of its statements
 pub cost_counts : (setting : Setting) (n : ℕ) (a : Statements) (st st' : State) (c : ℕ)

@@ -86,7 +86,8 @@ module _ (u : Setup) (extra : ℕ → ℕ) (shape : Locals) (class : ℕ) (st : 
       q = part_place m j l hb
 
       -- the main object's cells are before the heap
-      main_low : (x y : ℕ) → PartPlace x y → x ≡ main_name → object_address u at.blocks x + HEADER_WORDS + y < setup_base u
+      main_low : (x y : ℕ) → PartPlace x y → x ≡ main_name
+          → object_address u at.blocks x + HEADER_WORDS + y < setup_base u
       main_low x y place same =
           let cells = main_cells u extra shape class st s g in
           let sized = all_length u.setting.program st.store (cell_kinds u.setting.program place.object.head)

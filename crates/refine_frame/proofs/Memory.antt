@@ -324,7 +324,8 @@ module _ (u : Setup) (extra : ℕ → ℕ) (shape : Locals) (class : ℕ) (st : 
       ≡ memory u at (changed_at st.store n f) stack
   write_word stack n live f j w h whole = by (nat_eq n main_name) refl
     where
-      by : (b : Bool) → nat_eq n main_name ≡ b → slice_set (memory u at st.store stack) (object_address u at.blocks n + j) w
+      by : (b : Bool) → nat_eq n main_name ≡ b → slice_set (memory u at st.store stack)
+          (object_address u at.blocks n + j) w
           ≡ memory u at (changed_at st.store n f) stack
       by true e =
           let same = eqb-true n main_name e in

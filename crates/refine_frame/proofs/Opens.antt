@@ -45,7 +45,8 @@ read_frame base blocks [] i p h e = absurd (omega arith)
 read_frame base blocks (b ∷ bs) zero p h e =
     let l = length_frame_words base blocks bs in
     let q : p - length bs ≡ 0 = omega arith in
-    get_or-append_right (frame_words base blocks bs) (word_of_value base blocks b.value ∷ []) (length bs) p 0 l (omega arith)
+    get_or-append_right (frame_words base blocks bs) (word_of_value base blocks b.value ∷ []) (length bs) p 0 l
+    (omega arith)
     ∙ ap (slice_index (word_of_value base blocks b.value ∷ [])) q
 read_frame base blocks (b ∷ bs) (suc i) p h e =
     let l = length_frame_words base blocks bs in
@@ -64,7 +65,8 @@ write_frame base blocks (b ∷ bs) zero p v h e =
     ++ slice_set (word_of_value base blocks b.value ∷ []) z (word_of_value base blocks v)) q
 write_frame base blocks (b ∷ bs) (suc i) p v h e =
     let l = length_frame_words base blocks bs in
-    set-append_left (frame_words base blocks bs) (word_of_value base blocks b.value ∷ []) p (word_of_value base blocks v)
+    set-append_left (frame_words base blocks bs) (word_of_value base blocks b.value ∷ []) p
+    (word_of_value base blocks v)
     (omega arith) ∙ ap (λ z. z ++ word_of_value base blocks b.value ∷ [])
     (write_frame base blocks bs i p v (omega arith) (omega arith))
 
@@ -93,7 +95,8 @@ module _ (u : Setup) (extra : ℕ → ℕ) (shape : Locals) (class : ℕ) (st : 
   -- ---- reads
 
   slot_inside : (i : ℕ) (k : Kind) → slice_get (map local_type shape) i ≡ Some k → i < length st.frame
-  slot_inside i k h = let l = all_inside u.setting.program st.store (map local_type shape) (map bound_value st.frame) i k
+  slot_inside i k h = let l = all_inside u.setting.program st.store (map local_type shape) (map bound_value st.frame) i
+      k
       s.variables h in omega (arith, length-map st.frame bound_value)
 
   -- a cell that is there: its address holds the word of what the source reads
@@ -125,7 +128,8 @@ module _ (u : Setup) (extra : ℕ → ℕ) (shape : Locals) (class : ℕ) (st : 
   -- ---- writes
 
   pub write_cell_is : (cell : Cell) (k : Kind) (v : Value) → cell_kind u.setting.program shape st.store cell ≡ Some k
-      → OpenMemory u at below (written st cell v) (with_cell m (cell_address u at.blocks st cell) (word_of_value base at.blocks v))
+      → OpenMemory u at below (written st cell v) (with_cell m (cell_address u at.blocks st cell)
+      (word_of_value base at.blocks v))
   write_cell_is (Slot i) k v h =
       let inside = slot_inside i k h in
       let l = stack_length in
@@ -191,7 +195,8 @@ begun u at st m none one deep placed cells regs object frame = record {
   placed = placed;
   cells =
       cells ∙ sym (memory_is_layout u at st.store st.log placed) ∙ sym (zeros_end u at st.store [] FIRST_VARIABLE)
-      ∙ ap (memory u at st.store) (sym (ap (λ f. replicate FIRST_VARIABLE 0 ++ frame_words (setup_base u) at.blocks f) none
+      ∙ ap (memory u at st.store) (sym (ap (λ f. replicate FIRST_VARIABLE 0 ++ frame_words (setup_base u) at.blocks f)
+      none
       ∙ append-nil (replicate FIRST_VARIABLE 0)));
   level = omega (arith, length-replicate {A = ℕ} FIRST_VARIABLE 0);
   open_calls = omega arith;
@@ -204,7 +209,8 @@ begun u at st m none one deep placed cells regs object frame = record {
 
 -- and with no variables and zeros saved the cells are the layout
 pub ended : (u : Setup) (at : Placing) (st : State) (m : Machine) (n : ℕ) → st.frame ≡ []
-    → OpenMemory u at (replicate n 0) st m → m.cells ≡ layout u.setting.program u.setting.limits u.statics st.store st.log
+    → OpenMemory u at (replicate n 0) st m → m.cells ≡ layout u.setting.program u.setting.limits u.statics st.store
+    st.log
 ended u at st m n none o =
     o.cells
     ∙ ap (memory u at st.store) (ap (λ f. replicate n 0 ++ frame_words (setup_base u) at.blocks f) none

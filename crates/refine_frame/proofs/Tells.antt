@@ -120,21 +120,26 @@ module _ (u : Setup) (extra : ℕ → ℕ) (shape : Locals) (class : ℕ) (st : 
   IsRef (Name n) = IsReference n
 
   -- equal words are equal references
-  pub words_tell : (v w : Value) → IsRef v → IsRef w → nat_eq (word_of_value base at.blocks v) (word_of_value base at.blocks w)
+  pub words_tell : (v w : Value) → IsRef v → IsRef w → nat_eq (word_of_value base at.blocks v)
+      (word_of_value base at.blocks w)
       ≡ nat_eq (number_of v) (number_of w)
   words_tell (Word a) w p q = absurd p
   words_tell Nil (Word b) p q = absurd q
   words_tell (Name n) (Word b) p q = absurd q
   words_tell Nil Nil p q = refl
   words_tell Nil (Name m) p q = let a = (name_word m q).0 in let b = name_positive m q in
-      other_number 0 (word_of_value base at.blocks (Name m)) (λ e. omega arith) ∙ sym (other_number 0 m (λ e. omega arith))
+      other_number 0 (word_of_value base at.blocks (Name m)) (λ e. omega arith)
+      ∙ sym (other_number 0 m (λ e. omega arith))
   words_tell (Name n) Nil p q = let a = (name_word n p).0 in let b = name_positive n p in
-      other_number (word_of_value base at.blocks (Name n)) 0 (λ e. omega arith) ∙ sym (other_number n 0 (λ e. omega arith))
+      other_number (word_of_value base at.blocks (Name n)) 0 (λ e. omega arith)
+      ∙ sym (other_number n 0 (λ e. omega arith))
   words_tell (Name n) (Name m) p q = by (nat_eq n m) refl
     where
-      by : (b : Bool) → nat_eq n m ≡ b → nat_eq (word_of_value base at.blocks (Name n)) (word_of_value base at.blocks (Name m))
+      by : (b : Bool) → nat_eq n m ≡ b → nat_eq (word_of_value base at.blocks (Name n))
+          (word_of_value base at.blocks (Name m))
           ≡ nat_eq n m
-      by true e = ap (λ k. nat_eq (word_of_value base at.blocks (Name k)) (word_of_value base at.blocks (Name m))) (eqb-true n m e)
+      by true e = ap (λ k. nat_eq (word_of_value base at.blocks (Name k)) (word_of_value base at.blocks (Name m)))
+          (eqb-true n m e)
           ∙ same_number (word_of_value base at.blocks (Name m)) ∙ sym e
       by false e = other_number (word_of_value base at.blocks (Name n)) (word_of_value base at.blocks (Name m))
           (λ z. differs n m e (names_tell n m p q z)) ∙ sym e

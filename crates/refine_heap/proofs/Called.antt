@@ -129,7 +129,8 @@ module _ (im : Image) (r top : ℕ) (body : List Symbol) (m : Memory) (program :
       covered x block s lo hi = omega arith
 
   give_ends : (block : ℕ) → order_in taken block ≡ Some k
-      → StandApart program (2 ^ h) base store placing.blocks placing.blocks (give_back placing.book k block) → (o : Outcome)
+      → StandApart program (2 ^ h) base store placing.blocks placing.blocks (give_back placing.book k block)
+      → (o : Outcome)
       → AllocatorGave m book k (give_back placing.book k (base + block - base)) o
       → LeavesIn (record (memory_with_reg m BLOCK 0) {
         cells = laid program limits statics store

@@ -15,7 +15,8 @@ use Rattle.object_codegen.specs.rpp_tree.Tree.{Source}
 use Rattle.object_codegen.specs.class_rules.declared.kind.Kind.{Kind}
 use Rattle.object_codegen.specs.class_rules.declared.kind.Kind.TheVariants as kind
 use Rattle.object_codegen.specs.class_rules.Refusal.{not_an_array}
-use Rattle.object_codegen.specs.class_rules.Expressions.{is_int, element_kind, element_kind_of, variable_type, first_token}
+use Rattle.object_codegen.specs.class_rules.Expressions.{is_int, element_kind, element_kind_of, variable_type}
+use Rattle.object_codegen.specs.class_rules.Expressions.{first_token}
 use Rattle.object_codegen.specs.class_rules.Expressions.{index_is_int}
 use Rattle.object_codegen.specs.class_rules.Expressions.{type_of, place_type, occurs}
 use Rattle.object_codegen.specs.class_rules.Statements.{is_int_array, length_is_int}
@@ -137,11 +138,12 @@ module _ (p : Place) (routine : ℕ → Ident → ℕ) (linked : IsLinked p rout
     t = typed p.setting p.statics s u [] st m.cells rd
 
     can : CanEvaluate spot free n (lvalue_read (Whole name)) size m
-    can = subst (λ z. CanEvaluate spot free n (lvalue_read (Whole name)) size z) (sym (known p classes s u st m r)) (record {
-      ready = ready p few classes s u st m.cells rd n 0 0 room;
-      first = sees_place p.setting p.statics few classes s u st m.cells rd (Whole name) array tt place_typed;
-      second = sees p.setting p.statics few classes s u st m.cells rd size kind.Int size_words size_typed;
-    })
+    can = subst (λ z. CanEvaluate spot free n (lvalue_read (Whole name)) size z) (sym (known p classes s u st m r))
+        (record {
+          ready = ready p few classes s u st m.cells rd n 0 0 room;
+          first = sees_place p.setting p.statics few classes s u st m.cells rd (Whole name) array tt place_typed;
+          second = sees p.setting p.statics few classes s u st m.cells rd size kind.Int size_words size_typed;
+        })
 
     place_means : MeansPlace (Ad st) (Sl st) P st spot (bases_of m) m.cells (Whole name)
     place_means = subst (λ z. MeansPlace (Ad st) (Sl st) P st spot (bases_of z) z.cells (Whole name))

@@ -426,7 +426,8 @@ module _ (p : Place) (routine : ℕ → Ident → ℕ) (linked : IsLinked p rout
               after = record {
                 regs_are = r.regs_are;
                 open_frame = subst (λ w. Stands p.setting p.statics s u [] later
-                    (filled_words at (news.x p.setting p.statics s u st m.cells h cell k has empty head values fit_head fit
+                    (filled_words at (news.x p.setting p.statics s u st m.cells h cell k has empty head values fit_head
+                    fit
                     none zeros elements not_full mark_small small) w
                     (news.taken p.setting p.statics s u st m.cells h cell k has empty head values fit_head fit none
                     zeros elements not_full mark_small small))) (sym marked)
@@ -470,18 +471,22 @@ module _ (p : Place) (routine : ℕ → Ident → ℕ) (linked : IsLinked p rout
             ∙ sym (address_is p classes s u st m.cells rd n)
 
         was : (w : ℕ) → w ≡ gone.mark p.setting p.statics s u st m.cells h cell k has no_int n reads single zeros
-            → m.cells ≡ filled_words at (Ad st n) w (gone.taken p.setting p.statics s u st m.cells h cell k has no_int n reads
+            → m.cells ≡ filled_words at (Ad st n) w (gone.taken p.setting p.statics s u st m.cells h cell k has no_int n
+            reads
             single zeros)
         was w marked =
             gone.was p.setting p.statics s u st m.cells h cell k has no_int n reads single zeros
-            ∙ ap (λ q. filled_words q (gone.x p.setting p.statics s u st m.cells h cell k has no_int n reads single zeros)
+            ∙ ap (λ q. filled_words q (gone.x p.setting p.statics s u st m.cells h cell k has no_int n reads single
+            zeros)
             (gone.mark p.setting p.statics s u st m.cells h cell k has no_int n reads single zeros)
             (gone.taken p.setting p.statics s u st m.cells h cell k has no_int n reads single zeros))
             (place_is p classes s u st m.cells rd cell)
-            ∙ ap (λ y. filled_words at y (gone.mark p.setting p.statics s u st m.cells h cell k has no_int n reads single
+            ∙ ap (λ y. filled_words at y (gone.mark p.setting p.statics s u st m.cells h cell k has no_int n reads
+            single
             zeros) (gone.taken p.setting p.statics s u st m.cells h cell k has no_int n reads single zeros))
             x_is
-            ∙ ap (λ z. filled_words at (Ad st n) z (gone.taken p.setting p.statics s u st m.cells h cell k has no_int n reads
+            ∙ ap (λ z. filled_words at (Ad st n) z (gone.taken p.setting p.statics s u st m.cells h cell k has no_int n
+            reads
             single zeros)) (sym marked)
 
         given_takes : Takes low (length (object_at st.store n).cells) at (Ad st n)

@@ -53,7 +53,8 @@ use Rattle.refine_expressions.proofs.meaning_inverse_laws.Facts.{CopyTyped, copy
 
 module _ (p : Place) (few : length p.statics ≤ MOST_STATICS) (classes : KnowsClasses p.setting.program) (s : Scope)
     (u : Under) (at : ℕ) (kind : VarType) (source target : Lvalue)
-    (rules : copy_rules (typing_in p.setting.program s) (shape_of p.setting.program s) at kind source target ≡ verdict_passed)
+    (rules : copy_rules (typing_in p.setting.program s) (shape_of p.setting.program s) at kind source target
+    ≡ verdict_passed)
     (source_words : PlaceHasWords source) (target_words : PlaceHasWords target)
     (room : HasFrameSpace p.setting.program s (place_words source + place_words target)) where
   abbrev P : Source
@@ -275,7 +276,8 @@ module _ (p : Place) (few : length p.statics ≤ MOST_STATICS) (classes : KnowsC
             let c : suc count ≡ count + 1 = omega arith in
             record {
               regs_are = r.regs_are;
-              open_frame = subst (λ z. Stands p.setting p.statics s u [] (count_changed suc (written st b (Name n)) n) z)
+              open_frame = subst (λ z. Stands p.setting p.statics s u [] (count_changed suc (written st b (Name n)) n)
+                  z)
                   (cells_by (value_word p.setting p.statics h.frame.at (Name n)) (Ad st n) (suc count) (count + 1)
                   (name_word n f) c)
                   (copied_stands p.setting p.statics s u st m.cells r.open_frame a b first second kind_a kind_b n f ea
@@ -287,7 +289,8 @@ module _ (p : Place) (few : length p.statics ≤ MOST_STATICS) (classes : KnowsC
         uncopied eb =
             record {
               regs_are = r.regs_are;
-              open_frame = subst (λ z. Stands p.setting p.statics s u [] (count_changed one_less (written st b Nil) n) z)
+              open_frame = subst (λ z. Stands p.setting p.statics s u [] (count_changed one_less (written st b Nil) n)
+                  z)
                   (cells_by 0 0 (count - 1) (count - 1) refl refl)
                   (uncopied_stands p.setting p.statics s u st m.cells r.open_frame a b first second kind_a kind_b n f ea
                   eb typing.parts.second_refers small);

@@ -79,7 +79,8 @@ use Rattle.refine_objects.proofs.BlocksFit as blocks
 module _ (p : Place) (routine : ℕ → Ident → ℕ) (linked : IsLinked p routine) (classes : KnowsClasses p.setting.program)
     (s : Scope) (u : Under) (here : ℕ) (class : Ident) (target : Lvalue)
     (rules : make_rules (typing_in p.setting.program s) (shape_of p.setting.program s) here (AnObject class) target
-    ≡ verdict_passed) (target_words : PlaceHasWords target) (room : HasFrameSpace p.setting.program s (place_words target))
+    ≡ verdict_passed) (target_words : PlaceHasWords target)
+    (room : HasFrameSpace p.setting.program s (place_words target))
   where
     abbrev P : Source
     P = p.setting.program
@@ -161,14 +162,17 @@ module _ (p : Place) (routine : ℕ → Ident → ℕ) (linked : IsLinked p rout
         ≡ order_of_cells (length (cell_kinds P (OfClass (created_class P class))))
     order_is = ap (λ n. order_for (HEADER_WORDS + n)) (sym (kinds_long (created_class P class)))
 
-    fresh_order : order_of_cells (length (fresh_cells p.setting class)) ≡ order_for (HEADER_WORDS + created_fields P class)
+    fresh_order : order_of_cells (length (fresh_cells p.setting class))
+        ≡ order_for (HEADER_WORDS + created_fields P class)
     fresh_order = ap (λ n. order_for (HEADER_WORDS + n)) fresh_long
 
     -- the head of an object of the class
-    of_class : (head : Head) → is_of_class head (class_number P class.text) ≡ true → head ≡ OfClass (created_class P class)
+    of_class : (head : Head) → is_of_class head (class_number P class.text) ≡ true
+        → head ≡ OfClass (created_class P class)
     of_class head e = by head (sym (ap (is_of_class head) named_number) ∙ e)
       where
-        by : (head : Head) → is_of_class head (Some (created_class P class)) ≡ true → head ≡ OfClass (created_class P class)
+        by : (head : Head) → is_of_class head (Some (created_class P class)) ≡ true
+            → head ≡ OfClass (created_class P class)
         by (OfClass c) q = ap (λ n. OfClass n) (eqb-true c (created_class P class) q)
         by (OfInts l) q = absurd (cc)
         by (OfObjects c l) q = absurd (cc)
@@ -277,7 +281,8 @@ module _ (p : Place) (routine : ℕ → Ident → ℕ) (linked : IsLinked p rout
             (OfClass (created_class P class))
             (fresh_cells p.setting class) fit_head
             (λ store. zeros_fit P store (class_fields P (created_class P class)))
-            (zeros_hold_none (class_fields P (created_class P class))) (zeros_are_zero (class_fields P (created_class P class)))
+            (zeros_hold_none (class_fields P (created_class P class)))
+            (zeros_are_zero (class_fields P (created_class P class)))
             tt
             (subst (λ n. is_full p.setting n st ≡ false) fresh_kinds not_full) table_word
             (length (fresh_cells p.setting class)) 0 order (place_words target) (Fixed table fields) fresh_kinds
@@ -292,7 +297,8 @@ module _ (p : Place) (routine : ℕ → Ident → ℕ) (linked : IsLinked p rout
                   (length (fresh_cells p.setting class)) (OfClass (created_class P class)) (fresh_cells p.setting class)
                   target parts.type cell parts.is nc parts.own (avoids_of P st target (index_elements target)
                   unshared)),
-              made_apart p.setting classes C st g (length (fresh_cells p.setting class)) (OfClass (created_class P class))
+              made_apart p.setting classes C st g (length (fresh_cells p.setting class))
+                  (OfClass (created_class P class))
                   (fresh_cells p.setting class) target parts.type cell parts.is nc parts.own unshared,
             )
 
@@ -367,14 +373,16 @@ module _ (p : Place) (routine : ℕ → Ident → ℕ) (linked : IsLinked p rout
 pub new_object_fits : (p : Place) (routine : ℕ → Ident → ℕ) → IsLinked p routine
     → (s : Scope) (at : ℕ) (class : Ident) (target : Lvalue)
     → IsPassed p.setting.program s (New at (AnObject class) target) (place_words target)
-    → (q : List Symbol) → NewLaw p.setting.program (visible_spot p.setting.program s) (free_in_scope p.setting.program s)
+    → (q : List Symbol) → NewLaw p.setting.program (visible_spot p.setting.program s)
+    (free_in_scope p.setting.program s)
     (AnObject class) target q → StmtLaw (world_of p) s (New at (AnObject class) target) q
 new_object_fits p routine linked s at class target ok q law n owes d u =
     let classes = classes_known p.setting.program linked.accepted in
     let fs = facts p routine linked classes s u at class target ok.rules ok.has_words.1 ok.room in
     record {
       does = λ st m r.
-          (rows.new_does p.setting (A p classes s u) (L p classes s u) (R p classes s u) (visible_spot p.setting.program s)
+          (rows.new_does p.setting (A p classes s u) (L p classes s u) (R p classes s u)
+          (visible_spot p.setting.program s)
           (free_in_scope p.setting.program s) u.object (frame_address p.setting p.statics u) p.im class target
           (table_at p.setting.program (created_class p.setting.program class)) (created_fields p.setting.program class)
           (order_for (HEADER_WORDS + created_fields p.setting.program class))
@@ -387,7 +395,8 @@ new_object_fits p routine linked s at class target ok q law n owes d u =
 pub delete_object_fits : (p : Place) (routine : ℕ → Ident → ℕ) → IsLinked p routine
     → (s : Scope) (at : ℕ) (class : Ident) (target : Lvalue)
     → IsPassed p.setting.program s (Delete at (AnObject class) target) (place_words target)
-    → (q : List Symbol) → NewLaw p.setting.program (visible_spot p.setting.program s) (free_in_scope p.setting.program s)
+    → (q : List Symbol) → NewLaw p.setting.program (visible_spot p.setting.program s)
+    (free_in_scope p.setting.program s)
     (AnObject class) target q → StmtLaw (world_of p) s (Delete at (AnObject class) target) (mirror_cells q)
 delete_object_fits p routine linked s at class target ok q law n owes d u =
     let classes = classes_known p.setting.program linked.accepted in

@@ -11,7 +11,8 @@ use Rattle.refine_calls.specs.class_rules.Classes.{method_named}
 use Rattle.refine_calls.specs.class_rules.Inheritance.{is_or_inherits}
 use Rattle.refine_calls.proofs.class_rules_laws.FoundMethods.{Dispatched, dispatched_method, own_range}
 use Rattle.refine_calls.specs.paired_code.declared.part.Symbol.{Symbol}
-use Rattle.refine_program.specs.Methods.{RoutineEntry, entries_of, entries_from, entries, entry_at, methods_before, routine_of}
+use Rattle.refine_program.specs.Methods.{RoutineEntry, entries_of, entries_from, entries, entry_at, methods_before}
+use Rattle.refine_program.specs.Methods.{routine_of}
 use Rattle.refine_program.specs.Methods.{routine_in}
 use Rattle.refine_program.specs.Laws.{MethodsHaveRoutines, FindsRoutine, CallsFindRoutines, IsRoutineCode}
 use Rattle.refine_program.specs.Laws.{AreRoutineCodes, CodesAreMadeInOrder}
@@ -99,7 +100,8 @@ calls_find_routines program accepted own class slot name above inside is =
 
 -- ---- code by code
 
-one_more : (program : Source) (done : List RoutineEntry) (bodies : List (List Symbol)) (entry : RoutineEntry) (body : List Symbol)
+one_more : (program : Source) (done : List RoutineEntry) (bodies : List (List Symbol)) (entry : RoutineEntry)
+    (body : List Symbol)
     → AreRoutineCodes program done bodies → IsRoutineCode program entry body
     → AreRoutineCodes program (done ++ entry ∷ []) (bodies ++ body ∷ [])
 one_more program [] [] entry body h c = (c, tt)
@@ -107,7 +109,8 @@ one_more program [] (b ∷ bodies) entry body h c = absurd h
 one_more program (e ∷ done) [] entry body h c = absurd h
 one_more program (e ∷ done) (b ∷ bodies) entry body h c = (h.0, one_more program done bodies entry body h.1 c)
 
-pub as_many : (program : Source) (done : List RoutineEntry) (bodies : List (List Symbol)) → AreRoutineCodes program done bodies
+pub as_many : (program : Source) (done : List RoutineEntry) (bodies : List (List Symbol))
+    → AreRoutineCodes program done bodies
     → length bodies ≡ length done
 as_many program [] [] h = refl
 as_many program [] (b ∷ bodies) h = absurd h
@@ -128,7 +131,8 @@ codes_are_made_in_order program = record {
 }
 
 -- the code of an entry by its number
-pub code_at : (program : Source) (es : List RoutineEntry) (bodies : List (List Symbol)) → AreRoutineCodes program es bodies
+pub code_at : (program : Source) (es : List RoutineEntry) (bodies : List (List Symbol))
+    → AreRoutineCodes program es bodies
     → (r : ℕ) → r < length es → IsRoutineCode program (entry_at es r) (unwrap_or (slice_get bodies r) [])
 code_at program [] bodies h r l = absurd (omega arith)
 code_at program (e ∷ es) [] h r l = absurd h

@@ -7,7 +7,8 @@ use Rattle.refine_calls.specs.rpp_words.declared.input.Limits.{Limits}
 use Rattle.refine_calls.specs.rpp_tree.Tree.{Source}
 use Rattle.refine_calls.specs.pisa_isa.declared.cell.Cell.{Cell}
 use Rattle.refine_calls.specs.pisa_isa.declared.machine.Stop.{Stop}
-use Rattle.refine_calls.specs.pisa_isa.declared.machine.Stop.TheVariants.{Finished, Returned, Trap, BadAddress, OffCode, Bound}
+use Rattle.refine_calls.specs.pisa_isa.declared.machine.Stop.TheVariants.{Finished, Returned, Trap, BadAddress, OffCode}
+use Rattle.refine_calls.specs.pisa_isa.declared.machine.Stop.TheVariants.{Bound}
 use Rattle.refine_calls.specs.pisa_isa.Machine.{State as MachineState, fetch, stop, stop_at, next, Memory}
 use Rattle.refine_calls.specs.pisa_isa.Image.{Segments}
 use Rattle.refine_calls.specs.pisa_isa.Loaded.{loaded, loaded_state}
@@ -133,7 +134,8 @@ module _ (program : Source) (image : Segments) (places : List ℕ) (main : List 
       goes_on : (k : ℕ) (s : MachineState) → said n ≡ MoreRun → n ≤ b.counts * (k + 1)
           → steps image.code (k + 1) (loaded_state image limits input) ≡ Some s → Case n
 
-    case_of : (n : ℕ) (t : RunResult State) → run_result (said n) ≡ t → (o : Outcome) → Whole image.code (1 + length main) first o
+    case_of : (n : ℕ) (t : RunResult State) → run_result (said n) ≡ t → (o : Outcome)
+        → Whole image.code (1 + length main) first o
         → Meets Final b n 900 t o → Case n
     case_of n _ e _ wh (fine {a = end} {m = m'} {c = c} {k = k} f l u) =
         finishes end m' c k (told_done (said n) end c e) f u (λ j. wh.goes j)
@@ -143,7 +145,8 @@ module _ (program : Source) (image : Segments) (places : List ℕ) (main : List 
 
     whole_for : (n : ℕ) → (o : Outcome) × Whole image.code (1 + length main) first o
         × Meets Final b n 900 (run_result (said n)) o
-    whole_for n = whole_will main routines im first (Meets Final b n 900 (run_result (said n))) linked short (main_does n)
+    whole_for n = whole_will main routines im first (Meets Final b n 900 (run_result (said n))) linked short
+        (main_does n)
 
     case : (n : ℕ) → Case n
     case n = let q = whole_for n in case_of n (run_result (said n)) refl q.0 q.1 q.2

@@ -85,7 +85,8 @@ module _ (code : List Cell) (main : List Symbol) (routines : List (List Symbol))
   pub place_in : (r : ℕ) → slice_index (link_positions (first_top main) routines) r < length code
   place_in r = by (nat_lt r (length routines)) refl
     where
-      by : (b : Bool) → nat_lt r (length routines) ≡ b → slice_index (link_positions (first_top main) routines) r < length code
+      by : (b : Bool) → nat_lt r (length routines) ≡ b → slice_index (link_positions (first_top main) routines) r <
+          length code
       by true e =
           let s = stands_at im main routines linked r (ltb-true r (length routines) e) in
           let l = place_low im r (top_of (first_top main) routines r) (body_at routines r) s in

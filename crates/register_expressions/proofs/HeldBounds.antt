@@ -179,7 +179,8 @@ given_most at Gives o left right =
     let a = held_most left in
     let c = held_most right in
     let d = operator_most o in
-    let p = before_most (is_zero_literal right) (is_variable left) (is_variable right) (held_steps left) (held_steps right) in
+    let p = before_most (is_zero_literal right) (is_variable left) (is_variable right) (held_steps left)
+    (held_steps right) in
     let q = core_most (is_zero_literal right) (is_variable left) (is_variable right) (operator_steps o) in
     omega arith
 
@@ -291,7 +292,8 @@ operated_least : (c : Kind) (o : BinOp) (left right : Expression) (w v : ℕ) �
     → nodes left + nodes right + 2 ≤ 2 * operated_steps c o left right w v
 operated_least Changes o left right w v f l h k = literal_least (is_literal right) (is_variable right) w v (nodes left)
     (nodes right) (operator_steps o) (literal_node right) (variable_node right) h k l
-operated_least Gives o left right w v f l h k = both_least (is_zero_literal right) (is_variable left) (is_variable right) w v
+operated_least Gives o left right w v f l h k = both_least (is_zero_literal right) (is_variable left)
+    (is_variable right) w v
     (nodes left) (nodes right) (operator_steps o) (zero_node right) (variable_node left) (variable_node right) h k l
 operated_least Joins o left right w v f l h k =
     let a = told_least (is_truth left) w in
@@ -322,7 +324,8 @@ given_least at o left right h Joins =
     omega arith
 given_least at o left right h Gives =
     let s = own_some (kind o) (is_truth left) (is_truth right) (omega arith) in
-    let a = around_least (is_zero_literal right) (is_variable left) (is_variable right) (held_steps left) (held_steps right)
+    let a = around_least (is_zero_literal right) (is_variable left) (is_variable right) (held_steps left)
+    (held_steps right)
     (nodes left) (nodes right) (operator_steps o) (zero_node right) (variable_node left) (variable_node right)
     (held_least left (omega arith)) (held_least right (omega arith)) (operator_least o s) in
     omega arith
@@ -413,17 +416,20 @@ module _ (spot : List ℕ → Spot) where
       → length (Code.operated_cells spot c o left right w v k) ≤ length w + length v + 7
   operated_length Changes o left right w v k =
       let p = Code.before (is_literal right) false (is_variable right) w v in
-      let c = Code.core false false (is_variable right) (expression_spot spot left) (expression_spot spot right) (Code.part k)
+      let c = Code.core false false (is_variable right) (expression_spot spot left) (expression_spot spot right)
+      (Code.part k)
       (Code.part (k + need left)) (λ a s. Code.change_cells o a s) in
       let q = if is_literal right then Code.literal_cells o (Code.part k) (literal_in right) else c in
       let a = before_length (is_literal right) false (is_variable right) w v in
       let d = changed_length (is_literal right) o (Code.part k) (literal_in right) c
-      (core_length false false (is_variable right) (expression_spot spot left) (expression_spot spot right) (Code.part k)
+      (core_length false false (is_variable right) (expression_spot spot left) (expression_spot spot right)
+      (Code.part k)
       (Code.part (k + need left)) (λ a s. Code.change_cells o a s) (λ a s. change_length o a s)) in
       omega (arith, length-append p q)
   operated_length Gives o left right w v k =
       let p = Code.before (is_zero_literal right) (is_variable left) (is_variable right) w v in
-      let q = Code.core (is_zero_literal right) (is_variable left) (is_variable right) (expression_spot spot left) (expression_spot spot right)
+      let q = Code.core (is_zero_literal right) (is_variable left) (is_variable right) (expression_spot spot left)
+      (expression_spot spot right)
       (Code.part (k + 1)) (Code.part (k + 1 + need left)) (λ a s. Code.give_cells o (Code.part k) a s) in
       let a = before_length (is_zero_literal right) (is_variable left) (is_variable right) w v in
       let c = core_length (is_zero_literal right) (is_variable left) (is_variable right) (expression_spot spot left)
@@ -513,7 +519,8 @@ module _ (spot : List ℕ → Spot) where
       let w = Code.held_cells spot left 0 in
       let v = Code.held_cells spot right (need left) in
       let p = Code.before (is_zero_literal right) (is_variable left) (is_variable right) w v in
-      let q = Code.core (is_zero_literal right) (is_variable left) (is_variable right) (expression_spot spot left) (expression_spot spot right)
+      let q = Code.core (is_zero_literal right) (is_variable left) (is_variable right) (expression_spot spot left)
+      (expression_spot spot right)
       (Code.part 0) (Code.part (need left)) (λ a s. Code.give_cells o into a s) in
       let a = held_length left 0 in
       let c = held_length right (need left) in

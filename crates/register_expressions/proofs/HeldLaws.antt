@@ -19,7 +19,8 @@ use Rattle.register_expressions.specs.Code.{given_cells, held_value_cells, base_
 use Rattle.register_expressions.specs.Code.{held_test_cells}
 use Rattle.register_expressions.specs.declared.held.Kind.{Kind}
 use Rattle.register_expressions.specs.declared.held.Kind.TheVariants as which
-use Rattle.register_expressions.specs.Held.{kind, own, beside, past, need, told_need, is_variable, is_zero_literal, expression_spot}
+use Rattle.register_expressions.specs.Held.{kind, own, beside, past, need, told_need, is_variable, is_zero_literal}
+use Rattle.register_expressions.specs.Held.{expression_spot}
 use Rattle.register_expressions.specs.Held.{is_truth}
 use Rattle.register_expressions.specs.Number.{Bases, spot_address, word_given, number, Sees}
 use Rattle.register_expressions.specs.Steps.{held_steps, given_steps, held_value_steps, held_truth_steps}
@@ -127,7 +128,8 @@ module _ (n : ℕ) (b : Bases) (zs : List ℕ) (spot : List ℕ → Spot) (small
 
       truth_mid : (f : ℕ → ℕ) → Free b 0 top f → Goes (truth_cells into (part 0)) 2
           (known n (written (wide.puts f) into (f into)) zs)
-          (known n (written (wide.puts f) into (bit_xor (f into) (truth_word (is_true (word_given (number spot b zs e))))))
+          (known n (written (wide.puts f) into (bit_xor (f into)
+          (truth_word (is_true (word_given (number spot b zs e))))))
           zs)
       truth_mid f r =
           let vw : v < 2 ^ 32 = value_word spot b zs low all e sees fine in
@@ -175,12 +177,14 @@ module _ (n : ℕ) (b : Bases) (zs : List ℕ) (spot : List ℕ → Spot) (small
           fine))
           (value_word spot b zs low all right s.1 (fine_right spot b zs o (number spot b zs left)
           (number spot b zs right) fine)) (is_zero_literal right)
-          (is_variable left) (is_variable right) (expression_spot spot left) (expression_spot spot right) (zero_is spot b zs right)
+          (is_variable left) (is_variable right) (expression_spot spot left) (expression_spot spot right)
+          (zero_is spot b zs right)
           (shows n b only spot still_small hc low still_inside zs all left s.0 (alike left))
           (shows n b only spot still_small hc low still_inside zs all right s.1 (alike right)) in
           goes_to refl refl (ap (λ v. known n (written f into (bit_xor (f into) v)) zs)
           (given_is spot b zs at o left right fine))
-          (around_into both.change (operated o (word_given (number spot b zs left)) (word_given (number spot b zs right)))
+          (around_into both.change (operated o (word_given (number spot b zs left))
+          (word_given (number spot b zs right)))
           (λ f r. both.give o q f r into (f into) hi away zs refl) f r)
   given_into at o left right fits few s fine which.Joins q f r = go (subst (λ c. own c (is_truth left) (is_truth right)
       + (need left + need right) ≤ top) q fits)
@@ -212,13 +216,15 @@ module _ (n : ℕ) (b : Bases) (zs : List ℕ) (spot : List ℕ → Spot) (small
           two in
           goes_to refl refl (ap (λ v. known n (written f into (bit_xor (f into) v)) zs)
           (given_is spot b zs at o left right fine))
-          (around_into both.change (operated o (word_given (number spot b zs left)) (word_given (number spot b zs right)))
+          (around_into both.change (operated o (word_given (number spot b zs left))
+          (word_given (number spot b zs right)))
           (λ f r. both.give o q f r into (f into) hi away zs refl) f r)
 
   -- a register into which something is xored while the word of a variable is out
   leaf_into : (sp : Spot) (v t : ℕ) → spot_address b sp < length zs → (mid : List Symbol) → (f : ℕ → ℕ) → Free b 0 top f
       → Goes mid t
-      (known n (written (taken n f (base_of sp) (spot_address b sp) zs) into (f into)) (slice_set zs (spot_address b sp) 0))
+      (known n (written (taken n f (base_of sp) (spot_address b sp) zs) into (f into))
+      (slice_set zs (spot_address b sp) 0))
       (known n (written (taken n f (base_of sp) (spot_address b sp) zs) into (bit_xor (f into) v))
       (slice_set zs (spot_address b sp) 0))
       → Goes (around (reach_cells sp) mid) (2 + (t + 2)) (known n f zs)
@@ -253,7 +259,8 @@ module _ (n : ℕ) (b : Bases) (zs : List ℕ) (spot : List ℕ → Spot) (small
       (known n (written f into (bit_xor (f into) (truth_word (is_true (word_given (number spot b zs e)))))) zs)
   test_into e fits few s g f r = by (is_truth e) refl
     where
-      told : (t : Bool) → Shows n b only spot still_small (omega arith) t (expression_spot spot e) (word_given (number spot b zs e))
+      told : (t : Bool) → Shows n b only spot still_small (omega arith) t (expression_spot spot e)
+          (word_given (number spot b zs e))
           → Goes (if t then around (reach_cells (expression_spot spot e)) (truth_cells into CONTENT)
           else around (held_cells spot e 0) (truth_cells into (part 0)))
           (if t then 6 else (held_steps e + (2 + held_steps e))) (known n f zs)
@@ -311,7 +318,8 @@ module _ (n : ℕ) (b : Bases) (zs : List ℕ) (spot : List ℕ → Spot) (small
           → TrapsBoth (given_cells spot which.Gives o left right (Binary at o left right) into)
           (given_steps which.Gives o left right (held_steps (Binary at o left right))) c (known n f zs)
       go fits = both_more (omega arith) (traps_around
-          (core (is_zero_literal right) (is_variable left) (is_variable right) (expression_spot spot left) (expression_spot spot right)
+          (core (is_zero_literal right) (is_variable left) (is_variable right) (expression_spot spot left)
+          (expression_spot spot right)
           (part 0) (part (need left)) (λ a s. give_cells o into a s))
           (before_traps n b only spot still_small (omega arith) low still_inside zs all left right 0 (need left) c
           (omega arith)

@@ -106,7 +106,8 @@ module _ (n : ℕ) where
   pub known_at : (f : ℕ → ℕ) (zs : List ℕ) (r : ℕ) → r < n → memory_reg (known f zs) r ≡ f r
   known_at f zs r h = tabulated_at n f r h
 
-  pub known_set : (f : ℕ → ℕ) (zs : List ℕ) (r v : ℕ) → r < n → memory_with_reg (known f zs) r v ≡ known (written f r v) zs
+  pub known_set : (f : ℕ → ℕ) (zs : List ℕ) (r v : ℕ) → r < n
+      → memory_with_reg (known f zs) r v ≡ known (written f r v) zs
   known_set f zs r v h = ap (λ z. record { regs = z; cells = zs }) (tabulated_set n f r v h)
 
   -- ---- one register changes
@@ -131,14 +132,16 @@ module _ (n : ℕ) where
         (known (written f d (bit_xor x w)) zs)
     xori_goes w x h = goes_xor _ put x w refl h (λ z. step z) (λ z. step z)
       where
-        step : (z : ℕ) → Done (memory_with_reg (put z) d (bit_xor (memory_reg (put z) d) w)) 1 ≡ Done (put (bit_xor z w)) 1
+        step : (z : ℕ) → Done (memory_with_reg (put z) d (bit_xor (memory_reg (put z) d) w)) 1
+            ≡ Done (put (bit_xor z w)) 1
         step z = done z _ _ (ap (λ u. bit_xor u w) (mine z))
 
     pub addi_goes : (w x : ℕ) → x < 2 ^ 32 → w < 2 ^ 32 → Goes (addi d w ∷ []) 1 (known (written f d x) zs)
         (known (written f d (sum_of x w)) zs)
     addi_goes w x h k = goes_addi_word _ put x w h k refl k (λ z. step z w) (λ z. step z (negated w))
       where
-        step : (z u : ℕ) → Done (memory_with_reg (put z) d (sum_of (memory_reg (put z) d) u)) 1 ≡ Done (put (sum_of z u)) 1
+        step : (z u : ℕ) → Done (memory_with_reg (put z) d (sum_of (memory_reg (put z) d) u)) 1
+            ≡ Done (put (sum_of z u)) 1
         step z u = done z _ _ (ap (λ y. sum_of y u) (mine z))
 
     module _ (s : ℕ) (hs : s < n) (ns : s ≢ d) where
@@ -175,7 +178,8 @@ module _ (n : ℕ) where
           step : (z : ℕ) → Done (memory_with_reg (put z) d (bit_xor (memory_reg (put z) d)
               (word_of (is_less (memory_reg (put z) a) (memory_reg (put z) s))))) 1
               ≡ Done (put (bit_xor z (word_of (is_less (f a) (f s))))) 1
-          step z = done z _ _ (ap (λ u. bit_xor u (word_of (is_less (memory_reg (put z) a) (memory_reg (put z) s)))) (mine z)
+          step z = done z _ _ (ap (λ u. bit_xor u (word_of (is_less (memory_reg (put z) a) (memory_reg (put z) s))))
+              (mine z)
               ∙ ap (λ u. bit_xor z (word_of (is_less u (memory_reg (put z) s)))) (other a z ha na)
               ∙ ap (λ u. bit_xor z (word_of (is_less (f a) u))) (other s z hs ns))
 
@@ -184,7 +188,8 @@ module _ (n : ℕ) where
       andx_goes x = goes_xor _ put x (bit_and (f a) (f s)) refl (omega arith) (λ z. step z) (λ z. step z)
         where
           step : (z : ℕ) → Done (memory_with_reg (put z) d (bit_xor (memory_reg (put z) d)
-              (bit_and (memory_reg (put z) a) (memory_reg (put z) s)))) 1 ≡ Done (put (bit_xor z (bit_and (f a) (f s)))) 1
+              (bit_and (memory_reg (put z) a) (memory_reg (put z) s)))) 1
+              ≡ Done (put (bit_xor z (bit_and (f a) (f s)))) 1
           step z = done z _ _ (ap (λ u. bit_xor u (bit_and (memory_reg (put z) a) (memory_reg (put z) s))) (mine z)
               ∙ ap (λ u. bit_xor z (bit_and u (memory_reg (put z) s))) (other a z ha na)
               ∙ ap (λ u. bit_xor z (bit_and (f a) u)) (other s z hs ns))
@@ -212,7 +217,8 @@ module _ (n : ℕ) where
       (goes_addi _ (λ z. known (written f r z) zs) x i (omega arith) refl (omega arith) (λ z. step z i)
       (λ z. step z (negated i)))
     where
-      step : (z u : ℕ) → Done (memory_with_reg (known (written f r z) zs) r (sum_of (memory_reg (known (written f r z) zs) r) u)) 1
+      step : (z u : ℕ) → Done (memory_with_reg (known (written f r z) zs) r
+          (sum_of (memory_reg (known (written f r z) zs) r) u)) 1
           ≡ Done (known (written f r (sum_of z u)) zs) 1
       step z u = done f zs r hr z _ _ (ap (λ w. sum_of w u) (mine f zs r hr z))
 
@@ -238,7 +244,8 @@ module _ (n : ℕ) where
           ≡ (if nat_lt a (length ws) then Done (out g (slice_index ws a) (slice_set ws a z)) 1 else Bad a 0)
       step z ws =
           let at_r : memory_reg (out g z ws) r ≡ a = other g ws CONTENT hc r z hr ne ∙ e in
-          ap (λ u. if nat_lt u (length ws) then Done (exchanged g z ws u (memory_reg (out g z ws) CONTENT)) 1 else Bad u 0)
+          ap (λ u. if nat_lt u (length ws) then Done (exchanged g z ws u (memory_reg (out g z ws) CONTENT)) 1 else Bad u
+          0)
           at_r
           ∙ ap (λ u. if nat_lt a (length ws) then Done (exchanged g z ws a u) 1 else Bad a 0) (mine g ws CONTENT hc z)
           ∙ ap (λ u. if nat_lt a (length ws) then Done (record u { cells = slice_set ws a z }) 1 else Bad a 0)

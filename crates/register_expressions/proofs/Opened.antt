@@ -25,7 +25,8 @@ use Rattle.register_expressions.specs.declared.held.Kind.{Kind}
 use Rattle.register_expressions.specs.declared.held.Kind.TheVariants.{Gives, Joins, Neither}
 use Rattle.register_expressions.specs.declared.held.Kind.TheVariants as which
 use Rattle.register_expressions.specs.Held.{kind, own, beside, past, need, told_need, left_at, right_at, is_variable}
-use Rattle.register_expressions.specs.Held.{expression_spot, is_literal, literal_in, is_zero_literal, has_element, gives_truth, is_truth}
+use Rattle.register_expressions.specs.Held.{expression_spot, is_literal, literal_in, is_zero_literal, has_element}
+use Rattle.register_expressions.specs.Held.{gives_truth, is_truth}
 use Rattle.register_expressions.specs.Number.{Bases, spot_address, word_given, word_of, number, combined_words, Sees}
 use Rattle.register_expressions.specs.Steps.{operator_steps, before_steps, core_steps, told_steps, operated_steps}
 use Rattle.register_expressions.specs.Steps.{held_steps, element_steps}
@@ -78,11 +79,13 @@ module _ (spot : List ℕ → Spot) (b : Bases) (zs : List ℕ) where
   abbrev pub Fine : Expression → Type 0
   Fine e = number spot b zs e ≡ Ok (word_given (number spot b zs e))
 
-  pub fine_left : (o : BinOp) (p q : Result ℕ ℕ) → combined_words o p q ≡ Ok (word_given (combined_words o p q)) → p ≡ Ok (word_given p)
+  pub fine_left : (o : BinOp) (p q : Result ℕ ℕ) → combined_words o p q ≡ Ok (word_given (combined_words o p q))
+      → p ≡ Ok (word_given p)
   fine_left o (Ok x) q e = refl
   fine_left o (Err c) q e = absurd (cc)
 
-  pub fine_right : (o : BinOp) (p q : Result ℕ ℕ) → combined_words o p q ≡ Ok (word_given (combined_words o p q)) → q ≡ Ok (word_given q)
+  pub fine_right : (o : BinOp) (p q : Result ℕ ℕ) → combined_words o p q ≡ Ok (word_given (combined_words o p q))
+      → q ≡ Ok (word_given q)
   fine_right o (Ok x) (Ok y) e = refl
   fine_right o (Ok x) (Err c) e = absurd (cc)
   fine_right o (Err c) q e = absurd (cc)
@@ -927,7 +930,8 @@ module _ (n : ℕ) (b : Bases) (like : List ℕ → Type 0) where
           by : ((j : ℕ) → part (j + need left) ≤ n → need left < 10
               → Opens (held_cells spot left j) (held_steps left) j (j + need left) (word_given (number spot b zs left)))
               → ((j : ℕ) → part (j + need right) ≤ n → need right < 10
-              → Opens (held_cells spot right j) (held_steps right) j (j + need right) (word_given (number spot b zs right)))
+              → Opens (held_cells spot right j) (held_steps right) j (j + need right)
+              (word_given (number spot b zs right)))
               → (c : Kind) → kind o ≡ c
               → part (k + (own c (is_truth left) (is_truth right) + (need left + need right))) ≤ n
               → own c (is_truth left) (is_truth right) + (need left + need right) < 10
@@ -1125,7 +1129,8 @@ module _ (n : ℕ) (b : Bases) (like : List ℕ → Type 0) where
               (less_free (omega arith) (omega arith) f p) w))
           by tl tr Gives r h p w = traps_more (omega arith) (traps_first (core_cells spot Gives o left right k)
               (before_traps left right (k + 1) (k + 1 + need left) c (omega arith) s.0 to_left y (tl (omega arith))
-              (tr (omega arith)) f (is_zero_literal right) (is_variable left) (is_variable right) (leaf_none spot b zs left c)
+              (tr (omega arith)) f (is_zero_literal right) (is_variable left) (is_variable right)
+              (leaf_none spot b zs left c)
               (zero_none spot b zs right c) (leaf_none spot b zs right c) refl (omega arith)
               (less_free (omega arith) (omega arith) f p) w))
           by tl tr Joins r h p w = traps_more (omega arith) (traps_first (core_cells spot Joins o left right k)

@@ -5,7 +5,8 @@ use Rattle.std.proofs.lemmas.Bool.{cases_eq}
 use Rattle.code_scope.specs.pisa_isa.Table.{word_of}
 use Rattle.code_scope.specs.rpp_words.Words.{is_less}
 use Rattle.code_scope.specs.pisa_isa.Machine.{Memory}
-use Rattle.code_scope.specs.code_conventions.declared.registers.TheConstants.{AMOUNT, CONTENT, ITEM, LEFT, NOUGHT, OUTCOME, TRUTH}
+use Rattle.code_scope.specs.code_conventions.declared.registers.TheConstants.{AMOUNT, CONTENT, ITEM, LEFT, NOUGHT}
+use Rattle.code_scope.specs.code_conventions.declared.registers.TheConstants.{OUTCOME, TRUTH}
 use Rattle.code_scope.specs.paired_code.Machine.{memory_reg}
 use Rattle.code_scope.specs.paired_code.Pieces.{Done}
 use Rattle.code_scope.specs.roopl_semantics.Operators.{is_true, truth_word}
@@ -68,32 +69,34 @@ module _ (b : Bases) where
   same_result r in_truth f g s zs = refl
 
   -- xored into one of them
-  module _ (f : ℕ → ℕ) (s : Scratch) (zs : List ℕ) (r v : ℕ) (h : HasResult r) (e : memory_reg (mem b f s zs) r ≡ v) where
-    abbrev put : (i x : ℕ) → Memory
-    put i x = mem b (written f i x) s zs
+  module _ (f : ℕ → ℕ) (s : Scratch) (zs : List ℕ) (r v : ℕ) (h : HasResult r) (e : memory_reg (mem b f s zs) r ≡ v)
+    where
+      abbrev put : (i x : ℕ) → Memory
+      put i x = mem b (written f i x) s zs
 
-    gives : (i x : ℕ) → Done (put i (bit_xor x (memory_reg (put i x) r))) 1 ≡ Done (put i (bit_xor x v)) 1
-    gives i x = ap (λ z. Done (put i (bit_xor x z)) 1) (same_result r h (written f i x) f s zs ∙ e)
+      gives : (i x : ℕ) → Done (put i (bit_xor x (memory_reg (put i x) r))) 1 ≡ Done (put i (bit_xor x v)) 1
+      gives i x = ap (λ z. Done (put i (bit_xor x z)) 1) (same_result r h (written f i x) f s zs ∙ e)
 
-    pub into_goes : (i : ℕ) → IsTarget i → Goes (xor i r ∷ []) 1 (mem b f s zs)
-        (mem b (written f i (bit_xor (f i) v)) s zs)
-    into_goes i at0 = goes_xor _ (put 0) (f 0) v refl (omega arith) (gives 0) (gives 0)
-    into_goes i at1 = goes_xor _ (put 1) (f 1) v refl (omega arith) (gives 1) (gives 1)
-    into_goes i at11 = goes_xor _ (put 11) (f 11) v refl (omega arith) (gives 11) (gives 11)
-    into_goes i at12 = goes_xor _ (put 12) (f 12) v refl (omega arith) (gives 12) (gives 12)
-    into_goes i at13 = goes_xor _ (put 13) (f 13) v refl (omega arith) (gives 13) (gives 13)
-    into_goes i at14 = goes_xor _ (put 14) (f 14) v refl (omega arith) (gives 14) (gives 14)
-    into_goes i at15 = goes_xor _ (put 15) (f 15) v refl (omega arith) (gives 15) (gives 15)
-    into_goes i at25 = goes_xor _ (put 25) (f 25) v refl (omega arith) (gives 25) (gives 25)
-    into_goes i at26 = goes_xor _ (put 26) (f 26) v refl (omega arith) (gives 26) (gives 26)
-    into_goes i at27 = goes_xor _ (put 27) (f 27) v refl (omega arith) (gives 27) (gives 27)
-    into_goes i at28 = goes_xor _ (put 28) (f 28) v refl (omega arith) (gives 28) (gives 28)
-    into_goes i at29 = goes_xor _ (put 29) (f 29) v refl (omega arith) (gives 29) (gives 29)
-    into_goes i at30 = goes_xor _ (put 30) (f 30) v refl (omega arith) (gives 30) (gives 30)
-    into_goes i at31 = goes_xor _ (put 31) (f 31) v refl (omega arith) (gives 31) (gives 31)
+      pub into_goes : (i : ℕ) → IsTarget i → Goes (xor i r ∷ []) 1 (mem b f s zs)
+          (mem b (written f i (bit_xor (f i) v)) s zs)
+      into_goes i at0 = goes_xor _ (put 0) (f 0) v refl (omega arith) (gives 0) (gives 0)
+      into_goes i at1 = goes_xor _ (put 1) (f 1) v refl (omega arith) (gives 1) (gives 1)
+      into_goes i at11 = goes_xor _ (put 11) (f 11) v refl (omega arith) (gives 11) (gives 11)
+      into_goes i at12 = goes_xor _ (put 12) (f 12) v refl (omega arith) (gives 12) (gives 12)
+      into_goes i at13 = goes_xor _ (put 13) (f 13) v refl (omega arith) (gives 13) (gives 13)
+      into_goes i at14 = goes_xor _ (put 14) (f 14) v refl (omega arith) (gives 14) (gives 14)
+      into_goes i at15 = goes_xor _ (put 15) (f 15) v refl (omega arith) (gives 15) (gives 15)
+      into_goes i at25 = goes_xor _ (put 25) (f 25) v refl (omega arith) (gives 25) (gives 25)
+      into_goes i at26 = goes_xor _ (put 26) (f 26) v refl (omega arith) (gives 26) (gives 26)
+      into_goes i at27 = goes_xor _ (put 27) (f 27) v refl (omega arith) (gives 27) (gives 27)
+      into_goes i at28 = goes_xor _ (put 28) (f 28) v refl (omega arith) (gives 28) (gives 28)
+      into_goes i at29 = goes_xor _ (put 29) (f 29) v refl (omega arith) (gives 29) (gives 29)
+      into_goes i at30 = goes_xor _ (put 30) (f 30) v refl (omega arith) (gives 30) (gives 30)
+      into_goes i at31 = goes_xor _ (put 31) (f 31) v refl (omega arith) (gives 31) (gives 31)
 
   -- kept in `AMOUNT`
-  pub amount_goes : (r : ℕ) → HasResult r → (f : ℕ → ℕ) (s : Scratch) (zs : List ℕ) (v : ℕ) → memory_reg (mem b f s zs) r ≡ v
+  pub amount_goes : (r : ℕ) → HasResult r → (f : ℕ → ℕ) (s : Scratch) (zs : List ℕ) (v : ℕ)
+      → memory_reg (mem b f s zs) r ≡ v
       → Goes (xor AMOUNT r ∷ []) 1 (mem b f (record s { amount = 0 }) zs) (mem b f (record s { amount = v }) zs)
   amount_goes r in_content f s zs v e = goes_to refl refl (ap (λ z. mem b f (record s { amount = z }) zs) e)
       (goes_set _ (λ z. mem b f (record s { amount = z }) zs) s.content refl (omega arith) (λ z. refl) (λ z. refl))

@@ -41,7 +41,8 @@ source x = record { classes = x }
 not_true : IsTrue false → ⊥
 not_true t = cc
 
-no_limit : (m : Option ParseError) (free : Result ParsedValue ParseError) (q : ParsedValue) → unless m free ≡ Ok q → m ≡ None
+no_limit : (m : Option ParseError) (free : Result ParsedValue ParseError) (q : ParsedValue) → unless m free ≡ Ok q
+    → m ≡ None
 no_limit None free q h = refl
 no_limit (Some e) free q h = cc
 
@@ -246,7 +247,8 @@ one_wrong end ts at to a b =
     (λ more h d. a.wrong more d.0 h d.1) (program_of b.front b.viable) (λ more h d. b.wrong more d.0 h d.1)
     ∙ sym b.place
 
-free_wrong : (end : ℕ) (ts : List Token) (at : ℕ) (r : Result ParsedValue ParseError) → scan false end ts 0 start none_yet ≡ r
+free_wrong : (end : ℕ) (ts : List Token) (at : ℕ) (r : Result ParsedValue ParseError)
+    → scan false end ts 0 start none_yet ≡ r
     → IsWrongAt end ts at → r ≡ Err (Syntax at)
 free_wrong end ts at (Ok q) e w =
     let g = from_gen ts q (free_sound end ts 0 start none_yet q e) in

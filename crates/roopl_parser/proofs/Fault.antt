@@ -17,13 +17,14 @@ use Rattle.roopl_parser.proofs.Productive.{productive}
 abbrev pub bracket : List Token → Bool
 bracket ts = here (is_sign sign.LeftBracket) ts
 
-pub record Stop (at : ℕ) (ts : List Token) (n : ℕ) (s : List Part) (vs : List ParsedValue) (e : ParseError) : Type 0 where
-  pub front : List Token
-  pub rest : List Token
-  pub all : ts ≡ front ++ rest
-  pub place : e ≡ Syntax (offset_at at rest)
-  pub alive : (more : List Token) × (q : ParsedValue) × Gen s vs (front ++ more) q
-  pub dead : (more : List Token) (q : ParsedValue) → Behind rest more → scan false at (front ++ more) n s vs ≢ Ok q
+pub record Stop (at : ℕ) (ts : List Token) (n : ℕ) (s : List Part) (vs : List ParsedValue) (e : ParseError) : Type 0
+  where
+    pub front : List Token
+    pub rest : List Token
+    pub all : ts ≡ front ++ rest
+    pub place : e ≡ Syntax (offset_at at rest)
+    pub alive : (more : List Token) × (q : ParsedValue) × Gen s vs (front ++ more) q
+    pub dead : (more : List Token) (q : ParsedValue) → Behind rest more → scan false at (front ++ more) n s vs ≢ Ok q
 
 led_sound : (at to : ℕ) (b : Bool) (ts : List Token) (step : Step) (q : ParsedValue)
     → ((n : ℕ) (s : List Part) (vs : List ParsedValue) → scan false at ts n s vs ≡ Ok q → Gen s vs ts q)
@@ -56,7 +57,8 @@ ends_place at (Program c ∷ s) vs e h = ends_place at s vs e h
 ends_place at (_ ∷ s) vs e h = cc
 
 stop_step : (at : ℕ) (t : Token) (ts : List Token) (n : ℕ) (s : List Part) (vs : List ParsedValue) (e : ParseError)
-    (step : Step) → walk s n vs t ≡ step → ((m : ℕ) (u : List Part) (ws : List ParsedValue) → scan false at ts m u ws ≡ Err e
+    (step : Step) → walk s n vs t ≡ step → ((m : ℕ) (u : List Part) (ws : List ParsedValue)
+    → scan false at ts m u ws ≡ Err e
     → Stop at ts m u ws e) → led false t.at (bracket ts) (scan false at ts) step ≡ Err e → Stop at (t ∷ ts) n s vs e
 unfolding scan
 stop_step at t ts n s vs e Wrong w below h = record {
@@ -135,7 +137,8 @@ pub record Over (ts : List Token) (s : List Part) (vs : List ParsedValue) (e : P
   pub place : e ≡ Limit which token.at
   pub alive : (more : List Token) × (q : ParsedValue) × Gen s vs (front ++ token ∷ more) q
 
-over_mark : (t : Token) (ts : List Token) (n : ℕ) (s : List Part) (vs : List ParsedValue) (e : ParseError) (m : Mark) (n' : ℕ)
+over_mark : (t : Token) (ts : List Token) (n : ℕ) (s : List Part) (vs : List ParsedValue) (e : ParseError) (m : Mark)
+    (n' : ℕ)
     (s' : List Part) (vs' : List ParsedValue) (which : Option LimitKind) → walk s n vs t ≡ Next m n' s' vs'
     → ((m : ℕ) (u : List Part) (ws : List ParsedValue) → passes ts m u ws ≡ Some e → Over ts u ws e)
     → passing_by t.at which (passes ts n' s' vs') ≡ Some e → Over (t ∷ ts) s vs e
@@ -166,14 +169,16 @@ over_mark t ts n s vs e m n' s' vs' None w below h =
     }
 
 over_step : (t : Token) (ts : List Token) (n : ℕ) (s : List Part) (vs : List ParsedValue) (e : ParseError) (step : Step)
-    → walk s n vs t ≡ step → ((m : ℕ) (u : List Part) (ws : List ParsedValue) → passes ts m u ws ≡ Some e → Over ts u ws e)
+    → walk s n vs t ≡ step → ((m : ℕ) (u : List Part) (ws : List ParsedValue) → passes ts m u ws ≡ Some e
+    → Over ts u ws e)
     → passing t.at (bracket ts) (passes ts) step ≡ Some e → Over (t ∷ ts) s vs e
 over_step t ts n s vs e Wrong w below h = cc
 over_step t ts n s vs e (Next m n' s' vs') w below h =
     over_mark t ts n s vs e m n' s' vs' (passed m (bracket ts)) w below h
 
 -- where a limit is passed first: some value is read after the tokens up to that one, itself counted
-pub over : (ts : List Token) (n : ℕ) (s : List Part) (vs : List ParsedValue) (e : ParseError) → passes ts n s vs ≡ Some e
+pub over : (ts : List Token) (n : ℕ) (s : List Part) (vs : List ParsedValue) (e : ParseError)
+    → passes ts n s vs ≡ Some e
     → Over ts s vs e
 unfolding passes
 over [] n s vs e h = cc

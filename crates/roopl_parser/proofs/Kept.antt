@@ -33,7 +33,8 @@ use Rattle.roopl_parser.specs.Grammar.{uncall, skip, IsBranches, branches, IsSco
 use Rattle.roopl_parser.specs.Grammar.{end as finish, then, IsMoreParams, last_param, next_param, IsParams, no_param}
 use Rattle.roopl_parser.specs.Grammar.{params as some_params, IsMethod, method, IsMethods, no_method, methods, IsClass}
 use Rattle.roopl_parser.specs.Grammar.{class, IsClasses, no_class, classes}
-use Rattle.roopl_parser.specs.Reader.{ParsedValue, Part, Mark, Within, AnExpr, AnIdent, APlace, AType, AVar, Vars, ACreation}
+use Rattle.roopl_parser.specs.Reader.{ParsedValue, Part, Mark, Within, AnExpr, AnIdent, APlace, AType, AVar, Vars}
+use Rattle.roopl_parser.specs.Reader.{ACreation}
 use Rattle.roopl_parser.specs.Reader.{AStatement, Many, ABlock, AParent, Methods, Classes, AWord, ASign, AName, Level}
 use Rattle.roopl_parser.specs.Reader.{More, Index, Spot, Kind, Brackets, Made, Sized, Single, Block, Stmts, Assign}
 use Rattle.roopl_parser.specs.Reader.{Branches, Scope, Receiver, Params, Param, MoreParams, Count, Build, Parent}
@@ -61,7 +62,8 @@ use Rattle.roopl_parser.proofs.Complete.{class_reads}
 
 -- ---- marks that stop nothing
 
-stopped_ok : (at : ℕ) (m : Option LimitKind) (next : Result ParsedValue ParseError) (q : ParsedValue) → stopped at m next ≡ Ok q
+stopped_ok : (at : ℕ) (m : Option LimitKind) (next : Result ParsedValue ParseError) (q : ParsedValue)
+    → stopped at m next ≡ Ok q
     → (m ≡ None) × (next ≡ Ok q)
 stopped_ok at None next q h = (refl, h)
 stopped_ok at (Some which) next q h = cc
@@ -91,12 +93,14 @@ module _ (end : ℕ) (q : ParsedValue) where
   abbrev pub Good : List Token → ℕ → List Part → List ParsedValue → Type 0
   Good ts n s vs = scan true end ts n s vs ≡ Ok q
 
-  node_in : (at n : ℕ) (b : Bool) (next : Result ParsedValue ParseError) → stopped at (passed (node_mark n) b) next ≡ Ok q
+  node_in : (at n : ℕ) (b : Bool) (next : Result ParsedValue ParseError)
+      → stopped at (passed (node_mark n) b) next ≡ Ok q
       → (n < MOST_NODES) × (next ≡ Ok q)
   node_in at n b next h = let r = stopped_ok at (passed (node_mark n) b) next q h in
       ((most_kept MOST_NODES n limit.Nodes Within b r.0).0, r.1)
 
-  name_in : (at n i : ℕ) (b : Bool) (next : Result ParsedValue ParseError) → stopped at (passed (name_mark n i) b) next ≡ Ok q
+  name_in : (at n i : ℕ) (b : Bool) (next : Result ParsedValue ParseError)
+      → stopped at (passed (name_mark n i) b) next ≡ Ok q
       → (n < MOST_NODES) × (next ≡ Ok q)
   name_in at n i b next h = let r = stopped_ok at (passed (name_mark n i) b) next q h in
       ((most_kept MOST_NODES n limit.Nodes (cond (nat_lt i MOST_INDEX_DEPTH) Within Element) b r.0).0, r.1)
@@ -108,7 +112,8 @@ module _ (end : ℕ) (q : ParsedValue) where
       let m = most_kept MOST_NODES n limit.Nodes (cond (nat_lt i MOST_INDEX_DEPTH) Within Element) true r.0 in
       (m.0, ltb-true i MOST_INDEX_DEPTH (by_element (nat_lt i MOST_INDEX_DEPTH) m.1), r.1)
 
-  parens_in : (at p : ℕ) (b : Bool) (next : Result ParsedValue ParseError) → stopped at (passed (parens_mark p) b) next ≡ Ok q
+  parens_in : (at p : ℕ) (b : Bool) (next : Result ParsedValue ParseError)
+      → stopped at (passed (parens_mark p) b) next ≡ Ok q
       → (p < MOST_PARENS) × (next ≡ Ok q)
   parens_in at p b next h = let r = stopped_ok at (passed (parens_mark p) b) next q h in
       ((most_kept MOST_PARENS p limit.Parens Within b r.0).0, r.1)
@@ -118,7 +123,8 @@ module _ (end : ℕ) (q : ParsedValue) where
   nesting_in at d b next h = let r = stopped_ok at (passed (nesting_mark d) b) next q h in
       ((most_kept MOST_NESTING d limit.Nesting Within b r.0).0, r.1)
 
-  locals_in : (at l : ℕ) (b : Bool) (next : Result ParsedValue ParseError) → stopped at (passed (locals_mark l) b) next ≡ Ok q
+  locals_in : (at l : ℕ) (b : Bool) (next : Result ParsedValue ParseError)
+      → stopped at (passed (locals_mark l) b) next ≡ Ok q
       → (l < MOST_LOCALS) × (next ≡ Ok q)
   locals_in at l b next h = let r = stopped_ok at (passed (locals_mark l) b) next q h in
       ((most_kept MOST_LOCALS l limit.Locals Within b r.0).0, r.1)
@@ -130,12 +136,14 @@ module _ (end : ℕ) (q : ParsedValue) where
       let m = most_kept MOST_NESTING d limit.Nesting (locals_mark l) b r.0 in
       (m.0, (most_kept MOST_LOCALS l limit.Locals Within b m.1).0, r.1)
 
-  param_in : (at c : ℕ) (b : Bool) (next : Result ParsedValue ParseError) → stopped at (passed (param_mark c) b) next ≡ Ok q
+  param_in : (at c : ℕ) (b : Bool) (next : Result ParsedValue ParseError)
+      → stopped at (passed (param_mark c) b) next ≡ Ok q
       → c < MOST_PARAMETERS
   param_in at c b next h = let r = stopped_ok at (passed (param_mark c) b) next q h in
       (most_kept MOST_PARAMETERS c limit.Parameters Within b r.0).0
 
-  class_in : (at c : ℕ) (b : Bool) (next : Result ParsedValue ParseError) → stopped at (passed (class_mark c) b) next ≡ Ok q
+  class_in : (at c : ℕ) (b : Bool) (next : Result ParsedValue ParseError)
+      → stopped at (passed (class_mark c) b) next ≡ Ok q
       → (c < MOST_CLASSES) × (next ≡ Ok q)
   class_in at c b next h = let r = stopped_ok at (passed (class_mark c) b) next q h in
       ((most_kept MOST_CLASSES c limit.Classes Within b r.0).0, r.1)
@@ -345,7 +353,8 @@ module _ (end : ℕ) (q : ParsedValue) where
 
   assigned_kept : {at : ℕ} {p : Lvalue} {ts rest : List Token} {x : Statement} (r : IsAssigned at p ts rest x)
       (d l n : ℕ) → n ≡ index_nodes p → n ≤ MOST_NODES → lvalue_index_depth p ≤ MOST_INDEX_DEPTH → d < MOST_NESTING
-      → l ≤ MOST_LOCALS → Below 10 rest → (s : List Part) (vs : List ParsedValue) → Good ts n (Assign at ∷ s) (APlace p ∷ vs)
+      → l ≤ MOST_LOCALS → Below 10 rest → (s : List Part) (vs : List ParsedValue)
+      → Good ts n (Assign at ∷ s) (APlace p ∷ vs)
       → Fits d l x × (assigned_parens r ≤ MOST_PARENS)
   assigned_kept {at} {p} (update {a} {kind} {op} {ts} {rest} {e} o v) d l n same most deep f g b s vs h =
       let room : Room 0 n 0 = record { parens = omega arith; nodes = most; indexes = omega arith } in
@@ -678,7 +687,8 @@ module _ (end : ℕ) (q : ParsedValue) where
         (k.0, record { parens = omega (arith, k.1, m.parens); nodes = m.nodes; indexes = omega (arith, m.indexes) })
 
     block_kept : {ts rest : List Token} {x : Statements} (r : IsBlock ts rest x) (d l n : ℕ) → l ≤ MOST_LOCALS
-        → Below 10 rest → here starts rest ≡ false → (s : List Part) (vs : List ParsedValue) → Good ts n (Block d l ∷ s) vs
+        → Below 10 rest → here starts rest ≡ false → (s : List Part) (vs : List ParsedValue)
+        → Good ts n (Block d l ∷ s) vs
         → BlockFits d l x × (block_parens r ≤ MOST_PARENS)
     block_kept (block {ts} {mid} {rest} {x} {xs} r rs) d l n g b o s vs h =
         let h1 = sym (run_block true end ts n d l s vs) ∙ h in

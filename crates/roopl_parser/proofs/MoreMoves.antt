@@ -11,7 +11,8 @@ use Rattle.roopl_lexer.specs.declared.token.Symbol.TheVariants as sign
 use Rattle.roopl_parser.specs.declared.error.ParseError.{ParseError}
 use Rattle.roopl_parser.specs.declared.error.ParseError.TheVariants.{Syntax, Limit}
 use Rattle.roopl_parser.specs.Operators.{update_operator}
-use Rattle.roopl_parser.specs.Reader.{Part, ParsedValue, Vars, Step, Wrong, Next, Mark, Within, Past, ASign, Spot, Brackets}
+use Rattle.roopl_parser.specs.Reader.{Part, ParsedValue, Vars, Step, Wrong, Next, Mark, Within, Past, ASign, Spot}
+use Rattle.roopl_parser.specs.Reader.{Brackets}
 use Rattle.roopl_parser.specs.Reader.{Sized, Kind, Level, Build, MakeArray, MakeObjects, MakeSwap, Assign, Params}
 use Rattle.roopl_parser.specs.Reader.{Param, MoreParams, a_type, types, brackets, sized, swapped, params, field_parts}
 use Rattle.roopl_parser.specs.Reader.{here, is_sign, led, scan, walk, ends, ReaderGives}
@@ -41,13 +42,15 @@ params_not : (s : List Part) (n : ℕ) (vs : List ParsedValue) (other : Step) (k
 params_not s n vs other (token.Sign sign.RightParen) h = cc
 params_not s n vs other _ h = refl
 
-wrong_type : (s : List Part) (n : ℕ) (vs : List ParsedValue) (at : ℕ) (mark : Mark) (kind : TokenKind) → types kind ≡ false
+wrong_type : (s : List Part) (n : ℕ) (vs : List ParsedValue) (at : ℕ) (mark : Mark) (kind : TokenKind)
+    → types kind ≡ false
     → a_type s n vs at mark Wrong kind ≡ Wrong
 wrong_type s n vs at mark (token.Name x) h = cc
 wrong_type s n vs at mark (token.Word word.Int) h = cc
 wrong_type s n vs at mark _ h = refl
 
-type_over : (at : ℕ) (bracket : Bool) (next : ℕ → List Part → List ParsedValue → Result ParsedValue ParseError) (s : List Part)
+type_over : (at : ℕ) (bracket : Bool) (next : ℕ → List Part → List ParsedValue → Result ParsedValue ParseError)
+    (s : List Part)
     (n : ℕ) (vs : List ParsedValue) (kind : TokenKind) → types kind ≡ true
     → led true at bracket next (a_type s n vs at (Past limit.Parameters) Wrong kind) ≡ Err (Limit limit.Parameters at)
 type_over at bracket next s n vs (token.Name x) h = refl
@@ -105,14 +108,16 @@ unfolding scan walk ends
 run_param end [] n c s vs l = refl
 run_param end (t ∷ ts) n c s vs l = rw (lt-ltb c MOST_PARAMETERS l)
 
-pub run_param_over : (end : ℕ) (ts : List Token) (n c : ℕ) (s : List Part) (vs : List ParsedValue) → here types ts ≡ true
+pub run_param_over : (end : ℕ) (ts : List Token) (n c : ℕ) (s : List Part) (vs : List ParsedValue)
+    → here types ts ≡ true
     → MOST_PARAMETERS ≤ c → scan true end ts n (Param c ∷ s) vs ≡ Err (Limit limit.Parameters (offset_at end ts))
 unfolding scan walk ends
 run_param_over end [] n c s vs h l = cc
 run_param_over end (t ∷ ts) n c s vs h l = rw (le-ltb c MOST_PARAMETERS l)
     (type_over t.at (here (is_sign sign.LeftBracket) ts) (scan true end ts) (field_parts s) n vs t.kind h)
 
-pub run_param_wrong : (end : ℕ) (ts : List Token) (n c : ℕ) (s : List Part) (vs : List ParsedValue) → here types ts ≡ false
+pub run_param_wrong : (end : ℕ) (ts : List Token) (n c : ℕ) (s : List Part) (vs : List ParsedValue)
+    → here types ts ≡ false
     → scan true end ts n (Param c ∷ s) vs ≡ Err (Syntax (offset_at end ts))
 unfolding scan walk ends
 run_param_wrong end [] n c s vs h = refl
@@ -123,8 +128,10 @@ run_param_wrong end (t ∷ ts) n c s vs h = rw (wrong_type (field_parts s) n vs 
 pub gives_through : {X : Type 0} (r : Result X ParseError)
     (first before : List Part → List ParsedValue → Result ParsedValue ParseError)
     (behind after : X → List Part → List ParsedValue → Result ParsedValue ParseError) (stack : List Part → List Part)
-    (held : List ParsedValue → List ParsedValue) → ((s : List Part) (vs : List ParsedValue) → first s vs ≡ before (stack s) (held vs))
-    → ((x : X) (s : List Part) (vs : List ParsedValue) → behind x (stack s) (held vs) ≡ after x s vs) → ReaderGives r before behind
+    (held : List ParsedValue → List ParsedValue) → ((s : List Part) (vs : List ParsedValue)
+    → first s vs ≡ before (stack s) (held vs))
+    → ((x : X) (s : List Part) (vs : List ParsedValue) → behind x (stack s) (held vs) ≡ after x s vs)
+    → ReaderGives r before behind
     → ReaderGives r first after
 gives_through (Ok x) first before behind after stack held come go gives = λ s vs. come s vs ∙ gives (stack s) (held vs)
     ∙ go x s vs

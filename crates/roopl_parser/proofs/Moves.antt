@@ -18,7 +18,8 @@ use Rattle.roopl_lexer.specs.declared.token.Symbol.TheVariants as sign
 use Rattle.roopl_parser.specs.declared.error.ParseError.{ParseError}
 use Rattle.roopl_parser.specs.declared.error.ParseError.TheVariants.{Limit}
 use Rattle.roopl_parser.specs.Grammar.{lvalue_read}
-use Rattle.roopl_parser.specs.Reader.{Part, ParsedValue, Rule, Step, Wrong, Next, Within, Build, Count, Level, More, Index}
+use Rattle.roopl_parser.specs.Reader.{Part, ParsedValue, Rule, Step, Wrong, Next, Within, Build, Count, Level, More}
+use Rattle.roopl_parser.specs.Reader.{Index}
 use Rattle.roopl_parser.specs.Reader.{Spot, Kind, Brackets, Sized, Single, Block, Stmts, Branches, Scope, Parent}
 use Rattle.roopl_parser.specs.Reader.{Fields, Procedures, Program, AName, AWord, AParent, Many, AddStatement, MakeBlock}
 use Rattle.roopl_parser.specs.Reader.{MakeWhole, MakeObject, MakeParent, build, operand, index, brackets, sized}
@@ -40,7 +41,8 @@ pred_sub (suc k) = omega arith
 pub gives_from : {X : Type 0} (r : Result X ParseError)
     (first before : List Part → List ParsedValue → Result ParsedValue ParseError)
     (behind : X → List Part → List ParsedValue → Result ParsedValue ParseError)
-    → ((s : List Part) (vs : List ParsedValue) → first s vs ≡ before s vs) → ReaderGives r before behind → ReaderGives r first behind
+    → ((s : List Part) (vs : List ParsedValue) → first s vs ≡ before s vs) → ReaderGives r before behind
+    → ReaderGives r first behind
 gives_from (Ok x) first before behind same gives = λ s vs. same s vs ∙ gives s vs
 gives_from (Err e) first before behind same gives = λ known s vs. same s vs ∙ gives known s vs
 
@@ -169,7 +171,8 @@ pub parent_not : (s : List Part) (n : ℕ) (vs : List ParsedValue) (step : Step)
 parent_not s n vs step (token.Word word.Inherits) h = cc
 parent_not s n vs step _ h = refl
 
-method_is : (s : List Part) (n : ℕ) (vs : List ParsedValue) (step : Step) (kind : TokenKind) → is_word word.Method kind ≡ true
+method_is : (s : List Part) (n : ℕ) (vs : List ParsedValue) (step : Step) (kind : TokenKind)
+    → is_word word.Method kind ≡ true
     → procedures s n vs step kind ≡ cond (is_word word.Method kind) (Next Within n (method_parts (Procedures ∷ s)) vs)
     Wrong
 method_is s n vs step (token.Word word.Method) h = refl
@@ -264,7 +267,8 @@ module _ (strict : Bool) (end : ℕ) where
   run_stmts (t ∷ ts) n d l s vs h = ap (led strict t.at (here (is_sign sign.LeftBracket) ts) (scan strict end ts))
       (statement_is d l (Build AddStatement ∷ Stmts d l ∷ s) vs t.at (walk s n vs t) t.kind h)
 
-  pub run_stmts_end : (ts : List Token) (n : ℕ) (d l : ℕ) (s : List Part) (vs : List ParsedValue) → here starts ts ≡ false
+  pub run_stmts_end : (ts : List Token) (n : ℕ) (d l : ℕ) (s : List Part) (vs : List ParsedValue)
+      → here starts ts ≡ false
       → scan strict end ts n (Stmts d l ∷ s) vs ≡ scan strict end ts n (s) vs
   unfolding scan walk ends
   run_stmts_end [] n d l s vs h = refl
@@ -298,7 +302,8 @@ module _ (strict : Bool) (end : ℕ) where
   run_fields_end (t ∷ ts) n s vs h = ap (led strict t.at (here (is_sign sign.LeftBracket) ts) (scan strict end ts))
       (type_not (field_parts (Fields ∷ s)) n vs t.at Within (walk s n vs t) t.kind h)
 
-  pub run_parent : (ts : List Token) (n : ℕ) (s : List Part) (vs : List ParsedValue) → here (is_word word.Inherits) ts ≡ true
+  pub run_parent : (ts : List Token) (n : ℕ) (s : List Part) (vs : List ParsedValue)
+      → here (is_word word.Inherits) ts ≡ true
       → scan strict end ts n (Parent ∷ s) vs ≡ scan strict end ts n (AWord word.Inherits ∷ AName ∷ Build MakeParent ∷ s)
       vs
   unfolding scan walk ends

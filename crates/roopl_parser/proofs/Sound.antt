@@ -32,7 +32,8 @@ use Rattle.roopl_parser.specs.Grammar.{IsBlock, block, IsStatements, end, then, 
 use Rattle.roopl_parser.specs.Grammar.{IsParams, no_param, params as some_params, IsMethod, method, IsMethods}
 use Rattle.roopl_parser.specs.Grammar.{no_method, methods, IsFields, no_field, field, IsParent, alone, inherits}
 use Rattle.roopl_parser.specs.Grammar.{IsClass, class, IsClasses, no_class, classes}
-use Rattle.roopl_parser.specs.Reader.{ParsedValue, Part, Step, Mark, Within, Wrong, Next, AnExpr, AnIdent, Idents, APlace}
+use Rattle.roopl_parser.specs.Reader.{ParsedValue, Part, Step, Mark, Within, Wrong, Next, AnExpr, AnIdent, Idents}
+use Rattle.roopl_parser.specs.Reader.{APlace}
 use Rattle.roopl_parser.specs.Reader.{AType, AVar, Vars, ACreation, AStatement, Many, ABlock, AParent, Methods, Classes}
 use Rattle.roopl_parser.specs.Reader.{AWord, ASign, AName, Level, More, Index, Spot, Kind, Brackets, Made, Sized}
 use Rattle.roopl_parser.specs.Reader.{Single, Block, Stmts, Assign, Branches, Scope, Receiver, Args, MoreArgs, Params}
@@ -40,7 +41,8 @@ use Rattle.roopl_parser.specs.Reader.{Param, MoreParams, Count, Build, Parent, F
 use Rattle.roopl_parser.specs.Reader.{MakeObject, MakeConstruct, MakeLocal, MakeBlock, NoMethods, MakeClass, as_expr}
 use Rattle.roopl_parser.specs.Reader.{as_name, as_names, as_place, as_type, as_vars, as_many, as_methods, as_classes}
 use Rattle.roopl_parser.specs.Reader.{top, under, build}
-use Rattle.roopl_parser.specs.Reader.{operand, more, mores, index, name, a_type, brackets, made_read, sized as sized_step}
+use Rattle.roopl_parser.specs.Reader.{operand, more, mores, index, name, a_type, brackets, made_read}
+use Rattle.roopl_parser.specs.Reader.{sized as sized_step}
 use Rattle.roopl_parser.specs.Reader.{statement, var_parts, more_statements, block_parts, scope_end, assigned, swapped}
 use Rattle.roopl_parser.specs.Reader.{branch_parts, send_parts, receiver, args, more_args, field_parts, params}
 use Rattle.roopl_parser.specs.Reader.{more_params, parent, procedures, program, is_word, is_sign, walk, ends}
@@ -147,19 +149,22 @@ last_from {rest} h = let P : List Token → Type 0 = λ r. IsMoreParams r rest [
 abbrev pub Goes : ℕ → List Token → List Part → List ParsedValue → ParsedValue → Type 0
 Goes k from s vs q = (rest : List Token) × (e : Expression) × IsExpr k from rest e × Gen s (AnExpr e ∷ vs) rest q
 
-more_join : (k p i : ℕ) (s : List Part) (vs : List ParsedValue) (from ts : List Token) (e : Expression) (q : ParsedValue)
+more_join : (k p i : ℕ) (s : List Part) (vs : List ParsedValue) (from ts : List Token) (e : Expression)
+    (q : ParsedValue)
     → IsExpr k from ts e → Gen (More k p i ∷ s) (AnExpr e ∷ vs) ts q → Goes k from s vs q
 more_join k p i s vs from ts e q d (inl g) = (ts, e, d, g)
 more_join k p i s vs from ts e q d (inr h) = (h.0, h.1, h.2 from d, h.3)
 
-mores_sound : (k p i : ℕ) (s : List Part) (vs : List ParsedValue) (from ts : List Token) (e : Expression) (q : ParsedValue)
+mores_sound : (k p i : ℕ) (s : List Part) (vs : List ParsedValue) (from ts : List Token) (e : Expression)
+    (q : ParsedValue)
     → IsExpr 0 from ts e → Gen (mores k p i s) (AnExpr e ∷ vs) ts q → Goes k from s vs q
 mores_sound zero p i s vs from ts e q d g = (ts, e, d, g)
 mores_sound (suc k) p i s vs from ts e q d g =
     let r = mores_sound k p i (More (suc k) p i ∷ s) vs from ts e q d g in
     more_join (suc k) p i s vs from r.0 r.1 q (weaker r.2) r.3
 
-operand_sound : (k p i : ℕ) (s : List Part) (n : ℕ) (vs : List ParsedValue) (a : Span) (kind : TokenKind) (ts : List Token)
+operand_sound : (k p i : ℕ) (s : List Part) (n : ℕ) (vs : List ParsedValue) (a : Span) (kind : TokenKind)
+    (ts : List Token)
     (q : ParsedValue) → Then_gen (operand k p i s n vs a.at kind) ts q → Gen (Level k p i ∷ s) vs (tok a kind ∷ ts) q
 operand_sound k p i s n vs a (token.Number w) ts q g = mores_sound k p i s vs _ ts (Number a.at w) q number g
 operand_sound k p i s n vs a (token.Word word.Nil) ts q g = mores_sound k p i s vs _ ts (Null a.at) q null g
@@ -212,7 +217,8 @@ index_sound p i s n vs a (token.Sign sign.LeftBracket) other ts q below g = let 
     (h.1, Item (as_name (top vs)) g.1, item (expr_to h.2 g.2), h.3)
 index_sound p i s n vs a kind other ts q below g = (tok a kind ∷ ts, Whole (as_name (top vs)), whole, below g)
 
-spot_sound : (s : List Part) (n : ℕ) (vs : List ParsedValue) (a : Span) (kind : TokenKind) (ts : List Token) (q : ParsedValue)
+spot_sound : (s : List Part) (n : ℕ) (vs : List ParsedValue) (a : Span) (kind : TokenKind) (ts : List Token)
+    (q : ParsedValue)
     → Then_gen (name (Index 0 0 ∷ s) n vs a.at kind) ts q → Gen (Spot ∷ s) vs (tok a kind ∷ ts) q
 spot_sound s n vs a (token.Name x) ts q g = (g.0, g.1, place g.2, g.3)
 spot_sound s n vs a _ ts q g = absurd g
@@ -236,7 +242,8 @@ type_sound s n vs a mark other (token.Word word.Int) ts q g = let h = bracketed 
     inl (h.0, h.1, ints h.2, h.3)
 type_sound s n vs a mark other _ ts q g = inr g
 
-typed_only : (ts : List Token) (s : List Part) (vs : List ParsedValue) (q : ParsedValue) → Typed ts s vs q ⊎ ⊥ → Typed ts s vs q
+typed_only : (ts : List Token) (s : List Part) (vs : List ParsedValue) (q : ParsedValue) → Typed ts s vs q ⊎ ⊥
+    → Typed ts s vs q
 typed_only ts s vs q (inl r) = r
 typed_only ts s vs q (inr r) = absurd r
 
@@ -256,14 +263,16 @@ brackets_sound s n vs a other (token.Sign sign.LeftBracket) ts q below g =
     inr (g.1, array_of (as_type (top vs)), bracketed_from g.2 array, g.3)
 brackets_sound s n vs a other kind ts q below g = inl (below g)
 
-made_sound : (s : List Part) (n : ℕ) (vs : List ParsedValue) (a : Span) (kind : TokenKind) (ts : List Token) (q : ParsedValue)
+made_sound : (s : List Part) (n : ℕ) (vs : List ParsedValue) (a : Span) (kind : TokenKind) (ts : List Token)
+    (q : ParsedValue)
     → Then_gen (made_read s n vs a.at kind) ts q → Gen (Made ∷ s) vs (tok a kind ∷ ts) q
 made_sound s n vs a (token.Name x) ts q g = (g.0, g.1, named g.2, g.3)
 made_sound s n vs a (token.Word word.Int) ts q g = let h = g.3 in let b = h.3 in
     (b.1, Ints h.1, made_from g.2 (words (expr_to b.2 h.2)), b.3)
 made_sound s n vs a _ ts q g = absurd g
 
-sized_sound : (s : List Part) (n : ℕ) (vs : List ParsedValue) (a : Span) (other : Step) (kind : TokenKind) (ts : List Token)
+sized_sound : (s : List Part) (n : ℕ) (vs : List ParsedValue) (a : Span) (other : Step) (kind : TokenKind)
+    (ts : List Token)
     (q : ParsedValue) → (Then_gen other ts q → Gen s (build MakeObject vs) (tok a kind ∷ ts) q)
     → Then_gen (sized_step s n vs other kind) ts q → Gen (Sized ∷ s) vs (tok a kind ∷ ts) q
 sized_sound s n vs a other (token.Sign sign.LeftBracket) ts q below g = let h = g.3 in
@@ -333,13 +342,15 @@ swapped_sound : (at : ℕ) (s : List Part) (n : ℕ) (vs : List ParsedValue) (a 
 swapped_sound at s n vs a (token.Sign sign.Swap) ts q g = (g.0, Swap at (as_place (top vs)) g.1, swap g.2, g.3)
 swapped_sound at s n vs a _ ts q g = absurd g
 
-assigned_sound : (at : ℕ) (s : List Part) (n : ℕ) (vs : List ParsedValue) (a : Span) (kind : TokenKind) (op : Option UpdateOp)
+assigned_sound : (at : ℕ) (s : List Part) (n : ℕ) (vs : List ParsedValue) (a : Span) (kind : TokenKind)
+    (op : Option UpdateOp)
     (ts : List Token) (q : ParsedValue) → update_operator kind ≡ op
     → Then_gen (assigned at s n vs op (swapped at s n vs kind)) ts q → Gen (Assign at ∷ s) vs (tok a kind ∷ ts) q
 assigned_sound at s n vs a kind (Some op) ts q e g = (g.0, Update at op (as_place (top vs)) g.1, update e g.2, g.3)
 assigned_sound at s n vs a kind None ts q e g = swapped_sound at s n vs a kind ts q g
 
-word_sound : (w : Keyword) (kind : TokenKind) (a : Span) (n : ℕ) (s : List Part) (vs : List ParsedValue) (ts : List Token)
+word_sound : (w : Keyword) (kind : TokenKind) (a : Span) (n : ℕ) (s : List Part) (vs : List ParsedValue)
+    (ts : List Token)
     (q : ParsedValue) → Then_gen (cond (is_word w kind) (Next Within n s vs) Wrong) ts q
     → Gen (AWord w ∷ s) vs (tok a kind ∷ ts) q
 word_sound word.Class (token.Word word.Class) a n s vs ts q g = (a, ts, refl, g)
@@ -368,7 +379,8 @@ word_sound word.Call (token.Word word.Call) a n s vs ts q g = (a, ts, refl, g)
 word_sound word.Uncall (token.Word word.Uncall) a n s vs ts q g = (a, ts, refl, g)
 word_sound _ _ a n s vs ts q g = absurd g
 
-sign_sound : (w : Symbol) (kind : TokenKind) (a : Span) (n : ℕ) (s : List Part) (vs : List ParsedValue) (ts : List Token)
+sign_sound : (w : Symbol) (kind : TokenKind) (a : Span) (n : ℕ) (s : List Part) (vs : List ParsedValue)
+    (ts : List Token)
     (q : ParsedValue) → Then_gen (cond (is_sign w kind) (Next Within n s vs) Wrong) ts q
     → Gen (ASign w ∷ s) vs (tok a kind ∷ ts) q
 sign_sound sign.AddTo (token.Sign sign.AddTo) a n s vs ts q g = (a, ts, refl, g)
@@ -399,7 +411,8 @@ sign_sound sign.Comma (token.Sign sign.Comma) a n s vs ts q g = (a, ts, refl, g)
 sign_sound sign.DoubleColon (token.Sign sign.DoubleColon) a n s vs ts q g = (a, ts, refl, g)
 sign_sound _ _ a n s vs ts q g = absurd g
 
-name_sound : (kind : TokenKind) (a : Span) (n : ℕ) (s : List Part) (vs : List ParsedValue) (ts : List Token) (q : ParsedValue)
+name_sound : (kind : TokenKind) (a : Span) (n : ℕ) (s : List Part) (vs : List ParsedValue) (ts : List Token)
+    (q : ParsedValue)
     → Then_gen (name s n vs a.at kind) ts q → Gen (AName ∷ s) vs (tok a kind ∷ ts) q
 name_sound (token.Name x) a n s vs ts q g = (a, x, ts, refl, g)
 name_sound _ a n s vs ts q g = absurd g
@@ -430,7 +443,8 @@ scope_join n ts mid b s vs q r g =
     (e.0, b, w, e.1, scope (block_to g.2 r) (var_to y.2 (var (type_to x.3 t.2))) e.2, e.3)
 
 send_sound : (at : ℕ) (back : Bool) (first : Ident) (l : Lvalue) (from : List Token) (a : Span) (ts : List Token)
-    (s : List Part) (vs : List ParsedValue) (q : ParsedValue) → IsIndexed first from (tok a (Sign sign.DoubleColon) ∷ ts) l
+    (s : List Part) (vs : List ParsedValue) (q : ParsedValue)
+    → IsIndexed first from (tok a (Sign sign.DoubleColon) ∷ ts) l
     → Gen (send_parts at back s) (APlace l ∷ vs) ts q → (rest : List Token) × (x : Statement)
     × IsTarget at back first from rest x × Gen s (AStatement x ∷ vs) rest q
 send_sound at back first l from a ts s vs q i g =
@@ -441,7 +455,8 @@ send_sound at back first l from a ts s vs q i g =
     (g.3 ∙ ap (λ r. tok g.0 (Name g.1) ∷ r) b.2) in
     (c.0, Call at back (Some l) (ident g.0 g.1) c.1, on (indexed_to all i) c.2, c.3)
 
-receiver_sound : (at : ℕ) (back : Bool) (l : ℕ) (kind : TokenKind) (a : Span) (n : ℕ) (s : List Part) (vs : List ParsedValue)
+receiver_sound : (at : ℕ) (back : Bool) (l : ℕ) (kind : TokenKind) (a : Span) (n : ℕ) (s : List Part)
+    (vs : List ParsedValue)
     (ts : List Token) (q : ParsedValue) → Then_gen (receiver at back l s n vs kind) ts q
     → Gen (Receiver at back l ∷ s) vs (tok a kind ∷ ts) q
 receiver_sound at back l (token.Sign sign.LeftParen) a n s vs ts q g =
@@ -482,19 +497,22 @@ more_behind a b x ts us s vs q e (inr g) =
       subst P (append_assoc (as_names (top vs)) (ident b x ∷ []) g.1) g.3,
     )
 
-args_sound : (kind : TokenKind) (a : Span) (n : ℕ) (s : List Part) (vs : List ParsedValue) (ts : List Token) (q : ParsedValue)
+args_sound : (kind : TokenKind) (a : Span) (n : ℕ) (s : List Part) (vs : List ParsedValue) (ts : List Token)
+    (q : ParsedValue)
     → Then_gen (args s n vs a.at kind) ts q → Gen (Args ∷ s) vs (tok a kind ∷ ts) q
 args_sound (token.Sign sign.RightParen) a n s vs ts q g = (ts, [], none, g)
 args_sound (token.Name x) a n s vs ts q g = names_behind a x ts s vs q g
 args_sound _ a n s vs ts q g = absurd g
 
-more_args_sound : (kind : TokenKind) (a : Span) (n : ℕ) (s : List Part) (vs : List ParsedValue) (ts : List Token) (q : ParsedValue)
+more_args_sound : (kind : TokenKind) (a : Span) (n : ℕ) (s : List Part) (vs : List ParsedValue) (ts : List Token)
+    (q : ParsedValue)
     → Then_gen (more_args s n vs kind) ts q → Gen (MoreArgs ∷ s) vs (tok a kind ∷ ts) q
 more_args_sound (token.Sign sign.RightParen) a n s vs ts q g = inl (a, ts, refl, g)
 more_args_sound (token.Sign sign.Comma) a n s vs ts q g = more_behind a g.0 g.1 g.2 ts s vs q g.3 g.4
 more_args_sound _ a n s vs ts q g = absurd g
 
-params_behind : (ts mid : List Token) (v : Var) (c : ℕ) (s : List Part) (vs : List ParsedValue) (q : ParsedValue) → IsVar ts mid v
+params_behind : (ts mid : List Token) (v : Var) (c : ℕ) (s : List Part) (vs : List ParsedValue) (q : ParsedValue)
+    → IsVar ts mid v
     → Gen (MoreParams c ∷ s) (Vars (v ∷ []) ∷ vs) mid q → Gen (Params ∷ s) vs ts q
 params_behind ts mid v c s vs q d (inl g) = (g.1, v ∷ [], some_params d (last_from g.2), g.3)
 params_behind ts mid v c s vs q d (inr g) = (g.0, v ∷ g.1, some_params d g.2, g.3)
@@ -503,13 +521,15 @@ params_first : (ts : List Token) (s : List Part) (vs : List ParsedValue) (q : Pa
     → Added ts (MoreParams 1 ∷ s) (Vars [] ∷ vs) q → Gen (Params ∷ s) vs ts q
 params_first ts s vs q g = params_behind ts g.0 g.1 1 s vs q g.2 g.3
 
-params_sound : (kind : TokenKind) (a : Span) (n : ℕ) (s : List Part) (vs : List ParsedValue) (step : Step) (ts : List Token)
+params_sound : (kind : TokenKind) (a : Span) (n : ℕ) (s : List Part) (vs : List ParsedValue) (step : Step)
+    (ts : List Token)
     (q : ParsedValue) → (Then_gen step ts q → Gen (Params ∷ s) vs (tok a kind ∷ ts) q)
     → Then_gen (params s n vs step kind) ts q → Gen (Params ∷ s) vs (tok a kind ∷ ts) q
 params_sound (token.Sign sign.RightParen) a n s vs step ts q below g = (ts, [], no_param, g)
 params_sound _ a n s vs step ts q below g = below g
 
-more_params_behind : (a : Span) (c : ℕ) (ts mid : List Token) (v : Var) (s : List Part) (vs : List ParsedValue) (q : ParsedValue)
+more_params_behind : (a : Span) (c : ℕ) (ts mid : List Token) (v : Var) (s : List Part) (vs : List ParsedValue)
+    (q : ParsedValue)
     → IsVar ts mid v → Gen (MoreParams c ∷ s) (Vars (as_vars (top vs) ++ v ∷ []) ∷ under vs) mid q
     → Gen (MoreParams c ∷ s) vs (tok a (Sign sign.Comma) ∷ ts) q
 more_params_behind a c ts mid v s vs q d (inl g) = inr (g.1, v ∷ [], next_param d (last_from g.2), g.3)
@@ -517,13 +537,15 @@ more_params_behind a c ts mid v s vs q d (inr g) =
     let P : List Var → Type 0 = λ l. Gen s (Vars l ∷ under vs) g.0 q in
     inr (g.0, v ∷ g.1, next_param d g.2, subst P (append_assoc (as_vars (top vs)) (v ∷ []) g.1) g.3)
 
-more_params_sound : (c : ℕ) (kind : TokenKind) (a : Span) (n : ℕ) (s : List Part) (vs : List ParsedValue) (ts : List Token)
+more_params_sound : (c : ℕ) (kind : TokenKind) (a : Span) (n : ℕ) (s : List Part) (vs : List ParsedValue)
+    (ts : List Token)
     (q : ParsedValue) → Then_gen (more_params c s n vs kind) ts q → Gen (MoreParams c ∷ s) vs (tok a kind ∷ ts) q
 more_params_sound c (token.Sign sign.RightParen) a n s vs ts q g = inl (a, ts, refl, g)
 more_params_sound c (token.Sign sign.Comma) a n s vs ts q g = more_params_behind a c ts g.0 g.1 s vs q g.2 g.3
 more_params_sound c _ a n s vs ts q g = absurd g
 
-single_only : (ts : List Token) (s : List Part) (vs : List ParsedValue) (q : ParsedValue) → Runs ts s vs q ⊎ ⊥ → Runs ts s vs q
+single_only : (ts : List Token) (s : List Part) (vs : List ParsedValue) (q : ParsedValue) → Runs ts s vs q ⊎ ⊥
+    → Runs ts s vs q
 single_only ts s vs q (inl r) = r
 single_only ts s vs q (inr r) = absurd r
 
@@ -555,7 +577,8 @@ stmts_sound d l ts us step s vs q below (inl r) =
     inr (g.0, r.1 ∷ g.1, g.2, g.3)
 stmts_sound d l ts us step s vs q below (inr g) = inl (below g)
 
-parent_sound : (kind : TokenKind) (a : Span) (n : ℕ) (s : List Part) (vs : List ParsedValue) (step : Step) (ts : List Token)
+parent_sound : (kind : TokenKind) (a : Span) (n : ℕ) (s : List Part) (vs : List ParsedValue) (step : Step)
+    (ts : List Token)
     (q : ParsedValue) → (Then_gen step ts q → Gen s (AParent None ∷ vs) (tok a kind ∷ ts) q)
     → Then_gen (parent s n vs step kind) ts q → Gen (Parent ∷ s) vs (tok a kind ∷ ts) q
 parent_sound (token.Word word.Inherits) a n s vs step ts q below g =
@@ -563,7 +586,8 @@ parent_sound (token.Word word.Inherits) a n s vs step ts q below g =
     (g.2, Some (ident g.0 g.1), subst P (sym g.3) inherits, g.4)
 parent_sound kind a n s vs step ts q below g = (tok a kind ∷ ts, None, alone, below g)
 
-field_join : (from ts : List Token) (v : Var) (s : List Part) (vs : List ParsedValue) (q : ParsedValue) → IsVar from ts v
+field_join : (from ts : List Token) (v : Var) (s : List Part) (vs : List ParsedValue) (q : ParsedValue)
+    → IsVar from ts v
     → Gen (Fields ∷ s) (Vars (as_vars (top vs) ++ v ∷ []) ∷ under vs) ts q → Gen (Fields ∷ s) vs from q
 field_join from ts v s vs q d (inl g) = inr (ts, v ∷ [], field d no_field, g)
 field_join from ts v s vs q d (inr g) =
@@ -580,7 +604,8 @@ fields_sound : (ts us : List Token) (step : Step) (s : List Part) (vs : List Par
 fields_sound ts us step s vs q below (inl r) = field_first ts s vs q (added ts (Fields ∷ s) vs q r)
 fields_sound ts us step s vs q below (inr g) = inl (below g)
 
-method_join : (from ts : List Token) (x : Procedure) (s : List Part) (vs : List ParsedValue) (q : ParsedValue) → IsMethod from ts x
+method_join : (from ts : List Token) (x : Procedure) (s : List Part) (vs : List ParsedValue) (q : ParsedValue)
+    → IsMethod from ts x
     → Gen (Procedures ∷ s) (Methods (as_methods (top vs) ++ x ∷ []) ∷ under vs) ts q → Gen (Procedures ∷ s) vs from q
 method_join from ts x s vs q d (inl g) = inr (ts, x ∷ [], methods d no_method, g)
 method_join from ts x s vs q d (inr g) =
@@ -609,18 +634,22 @@ class_join c from ts x s vs q d (inr g) =
     inr (g.0, x ∷ g.1, classes d g.2, subst P (append_assoc (as_classes (top vs)) (x ∷ []) g.1) g.3)
 
 -- the methods of a class, after its fields, and what follows them
-abbrev pub Ends_class : List Token → Ident → Option Ident → List Var → List Part → List ParsedValue → ParsedValue → Type 0
+abbrev pub Ends_class : List Token → Ident → Option Ident → List Var → List Part → List ParsedValue → ParsedValue
+    → Type 0
 Ends_class ts name p fs s vs q = (rest : List Token) × (ms : List Procedure) × IsMethods ts rest ms
     × Gen s (Classes (as_classes (top vs) ++ record { name = name; parent = p; fields = fs; methods = ms } ∷ [])
     ∷ under vs) rest q
 
-class_methods : (ts : List Token) (name : Ident) (p : Option Ident) (fs : List Var) (s : List Part) (vs : List ParsedValue)
-    (q : ParsedValue) → Gen (Procedures ∷ Build MakeClass ∷ s) (Methods [] ∷ Vars fs ∷ AParent p ∷ AnIdent name ∷ vs) ts q
+class_methods : (ts : List Token) (name : Ident) (p : Option Ident) (fs : List Var) (s : List Part)
+    (vs : List ParsedValue)
+    (q : ParsedValue) → Gen (Procedures ∷ Build MakeClass ∷ s) (Methods [] ∷ Vars fs ∷ AParent p ∷ AnIdent name ∷ vs) ts
+    q
     → Ends_class ts name p fs s vs q
 class_methods ts name p fs s vs q (inl g) = (ts, [], no_method, g)
 class_methods ts name p fs s vs q (inr g) = (g.0, g.1, g.2, g.3)
 
-class_fields : (ts : List Token) (name : Ident) (p : Option Ident) (s : List Part) (vs : List ParsedValue) (q : ParsedValue)
+class_fields : (ts : List Token) (name : Ident) (p : Option Ident) (s : List Part) (vs : List ParsedValue)
+    (q : ParsedValue)
     → Gen (Fields ∷ Build NoMethods ∷ Procedures ∷ Build MakeClass ∷ s) (Vars [] ∷ AParent p ∷ AnIdent name ∷ vs) ts q
     → (mid : List Token) × (fs : List Var) × IsFields ts mid fs × Ends_class mid name p fs s vs q
 class_fields ts name p s vs q (inl g) = (ts, [], no_field, class_methods ts name p [] s vs q g)
@@ -699,7 +728,8 @@ walk_sound (Procedures ∷ s) n vs t ts q g = procedures_sound t.kind (span_of t
 walk_sound (Program c ∷ s) n vs t ts q g = program_sound c t.kind (span_of t) n s vs (walk s n vs t) ts q
     (walk_sound s n vs t ts q) g
 
-pub ends_sound : (at : ℕ) (s : List Part) (vs : List ParsedValue) (q : ParsedValue) → ends at s vs ≡ Ok q → Gen s vs [] q
+pub ends_sound : (at : ℕ) (s : List Part) (vs : List ParsedValue) (q : ParsedValue) → ends at s vs ≡ Ok q
+    → Gen s vs [] q
 unfolding ends
 ends_sound at [] vs q h = (refl, cc)
 ends_sound at (More k p i ∷ s) vs q h = inl (ends_sound at s vs q h)

@@ -12,7 +12,8 @@ use Rattle.roopl_parser.specs.Reader.{ParsedValue, Part, Level, More, Build, Mak
 use Rattle.roopl_parser.specs.Reader.{name_mark, parens_mark, passed, stopped, led, more, here, is_sign, walk, scan}
 use Rattle.roopl_parser.proofs.Moves.{pred_sub}
 
-pub parens_step : (end at p i n : ℕ) (b : Bool) (ts : List Token) (s : List Part) (vs : List ParsedValue) → p < MOST_PARENS
+pub parens_step : (end at p i n : ℕ) (b : Bool) (ts : List Token) (s : List Part) (vs : List ParsedValue)
+    → p < MOST_PARENS
     → stopped at (passed (parens_mark p) b) (scan true end ts n (Level 9 (suc p) i ∷ s) vs)
     ≡ scan true end ts n (Level 9 (p + 1) i ∷ s) vs
 parens_step end at p i n b ts s vs h = rw (lt-ltb p MOST_PARENS h, add-one p) refl

@@ -165,7 +165,8 @@ element_like name index inner _ rest (next {a = a} {ts = ts} looks) =
 
 -- the operator and what follows it
 operator_like : (at : ℕ) (op : BinOp) (l r : Expression) → Operand r → (ts mid rest : List Token)
-    → LikeExpr 0 l (1 + nodes l) ts mid → Looks (a_sign (operator op) ∷ operand_tokens r (spelled_expression r)) mid rest
+    → LikeExpr 0 l (1 + nodes l) ts mid → Looks (a_sign (operator op) ∷ operand_tokens r (spelled_expression r)) mid
+    rest
     → LikeExpr 9 (Binary at op l r) (nodes (Binary at op l r)) ts rest
 operator_like at op l r right ts _ rest left (next {a = a} {ts = mid} looks) =
     let other = right mid rest looks in
@@ -179,7 +180,8 @@ operator_like at op l r right ts _ rest left (next {a = a} {ts = mid} looks) =
 
 binary_like : (at : ℕ) (op : BinOp) (l r : Expression) → Operand l → Operand r → Whole' (Binary at op l r)
 binary_like at op l r left right ts rest looks =
-    let p = parted (operand_tokens l (spelled_expression l)) (a_sign (operator op) ∷ operand_tokens r (spelled_expression r)) looks in
+    let p = parted (operand_tokens l (spelled_expression l))
+    (a_sign (operator op) ∷ operand_tokens r (spelled_expression r)) looks in
     operator_like at op l r right ts p.mid rest (left ts p.mid p.front) p.back
 
 -- what has no parentheses looks the same as an operand

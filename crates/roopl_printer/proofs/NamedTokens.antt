@@ -72,7 +72,8 @@ module _ (P : TokenKind → Type 0) (words : (k : Keyword) → P (token.Word k))
   expression (Element name index) h = (h.0, brackets (spelled_expression index) (expression index h.1))
   expression (Binary at op left right) h =
       let s = split (expression_names left) (expression_names right) h in
-      join (operand_tokens left (spelled_expression left)) (a_sign (operator op) ∷ operand_tokens right (spelled_expression right))
+      join (operand_tokens left (spelled_expression left))
+      (a_sign (operator op) ∷ operand_tokens right (spelled_expression right))
       (operand_of left (expression left s.0))
       (signs (operator op), operand_of right (expression right s.1))
 
@@ -164,7 +165,8 @@ module _ (P : TokenKind → Type 0) (words : (k : Keyword) → P (token.Word k))
       join (spelled_creation m) (spelled_place p) (creation m s.0) (place p s.1)
 
   -- a word and what follows it, four times
-  four : (a b c d : List PrintedToken) (first : PrintedToken) (x y z : Keyword) → P first.kind → Holds a → Holds b → Holds c
+  four : (a b c d : List PrintedToken) (first : PrintedToken) (x y z : Keyword) → P first.kind → Holds a → Holds b
+      → Holds c
       → Holds d → Holds (first ∷ a ++ a_word x ∷ b ++ a_word y ∷ c ++ a_word z ∷ d)
   four a b c d first x y z f ha hb hc hd = (
     f,

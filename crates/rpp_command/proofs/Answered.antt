@@ -101,7 +101,8 @@ pub refused : (asked : Option Asked) (probes : List Watch) (rose : Type 0) (shel
 unfolding Answers
 refused asked probes rose shelf out out' said r status none is h by =
     subst (λ (it : ℕ). Answers asked probes probes rose shelf shelf out out' it) (sym by)
-    (subst (λ (it : Option Asked). Answers it probes probes rose shelf shelf out out' (ended_status 1 r)) (sym none) (record {
+    (subst (λ (it : Option Asked). Answers it probes probes rose shelf shelf out out' (ended_status 1 r)) (sym none)
+    (record {
       puts = inl (puts_by words_refused 1 out out' r (subst (λ t. HasPut t (put_answer r) out out') is h));
       same = refl;
       untold = refl;

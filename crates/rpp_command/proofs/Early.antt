@@ -51,7 +51,8 @@ ends_early line probes kept told mid after before at now failed lacks old new p 
       is_plan = subst (λ (n : ℕ). IsPlan line probes kept n made told p) none is;
       broken_off = breaks_by told after (Rose at now) (Rose before now) failed lacks old new p broken
           (rose_before before at now later)
-          (subst (λ (texts : Option Texts). AbortsServing texts after (Rose at now) failed lacks old new p broken) same h);
+          (subst (λ (texts : Option Texts). AbortsServing texts after (Rose at now) failed lacks old new p broken) same
+          h);
     })
 
 keeps_same : (written : Option (List ℕ)) → Keeps written written

@@ -133,7 +133,8 @@ plan_of_texts (Generate seed size out) before after count counted told held (tex
 plan_of_texts (Cluster script cells images) before after count counted told held [] old new p gave has h =
     absurd gave
 plan_of_texts (Cluster script cells images) before after count counted told held (text ∷ texts) old new p gave has h =
-    images_at_places told held (97 ∷ []) images texts _ new (λ read_event. IsClusterPlan (images_at read_event) text cells p) gave.1
+    images_at_places told held (97 ∷ []) images texts _ new
+    (λ read_event. IsClusterPlan (images_at read_event) text cells p) gave.1
     has.1 (text_at held [] MOST_SCRIPT text (λ (text : List ℕ). WithImages (Some held) (names_from (97 ∷ []) images)
     (λ read_event. IsClusterPlan (images_at read_event) text cells p)) has.0 h)
 plan_of_texts (RunImage image sizes None save) before after count counted told held [] old new p gave has h =

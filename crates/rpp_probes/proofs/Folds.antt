@@ -2,7 +2,8 @@
 use Rattle.std.proofs.Common.{◌≡◌, ◌∙◌, sym, ap, refl, Bool, true, false, List, [], ◌∷◌, ◌++◌, append_assoc}
 use Rattle.std.proofs.lemmas.List.{append-nil}
 use Rattle.rpp_probes.specs.declared.probe.StepAt.{StepAt}
-use Rattle.rpp_probes.specs.Tally.{Watch, step_observed, told_all, has_ended, is_ended_in, going, lines_at, left_after, lines_after}
+use Rattle.rpp_probes.specs.Tally.{Watch, step_observed, told_all, has_ended, is_ended_in, going, lines_at, left_after}
+use Rattle.rpp_probes.specs.Tally.{lines_after}
 
 pub left_none : (ws : List Watch) → left_after [] ws ≡ ws
 left_none [] = refl
@@ -15,12 +16,14 @@ going_first : (step : StepAt) (steps : List StepAt) (w : Watch) (ws : List Watch
     → left_after steps (going step (w ∷ ws)) ≡ left_after (step ∷ steps) (w ∷ ws)
 going_first step steps w ws true later e f rest = rw e rest
 going_first step steps w ws false true e f rest = rw (e, f) rest
-going_first step steps w ws false false e f rest = rw (e, f) (rw e (ap (λ l. told_all steps (step_observed step w) ∷ l) rest))
+going_first step steps w ws false false e f rest = rw (e, f)
+    (rw e (ap (λ l. told_all steps (step_observed step w) ∷ l) rest))
 
 pub going_left : (step : StepAt) (steps : List StepAt) (ws : List Watch)
     → left_after steps (going step ws) ≡ left_after (step ∷ steps) ws
 going_left step steps [] = refl
-going_left step steps (w ∷ ws) = going_first step steps w ws (has_ended (step_observed step w)) (is_ended_in steps (step_observed step w))
+going_left step steps (w ∷ ws) = going_first step steps w ws (has_ended (step_observed step w))
+    (is_ended_in steps (step_observed step w))
     refl refl (going_left step steps ws)
 
 pub left_one : (step : StepAt) (ws : List Watch) → left_after (step ∷ []) ws ≡ going step ws

@@ -9,7 +9,8 @@ use Rattle.std.proofs.lemmas.Bool.{cases_lt}
 use Rattle.std.proofs.lemmas.Bool.Decides.{nat_tests}
 use Rattle.rpp_probes.specs.declared.probe.StepAt.{StepAt}
 use Rattle.std.proofs.lemmas.List.Elements.{All-head, All-tail, All-cons, All-nil, All-weaker}
-use Rattle.rpp_probes.specs.Tally.{Watch, step_observed, told_all, has_ended, is_ended_in, going, lines_at, left_after, lines_after}
+use Rattle.rpp_probes.specs.Tally.{Watch, step_observed, told_all, has_ended, is_ended_in, going, lines_at, left_after}
+use Rattle.rpp_probes.specs.Tally.{lines_after}
 use Rattle.rpp_probes.specs.Tally.{IsSureFor, AreSureFor, EndNone}
 use Rattle.rpp_probes.proofs.Told.{same_parts, tail_same, parted, set_parted, count_front, none_left}
 use Rattle.rpp_probes.specs.Rules.{coverage, risen, marked, marked_all}
@@ -55,7 +56,8 @@ nor_other false b h = h
 -- so many steps, of which the probes are sure
 pub none_of_sure : (n : ℕ) (steps : List StepAt) (ws : List Watch) → AreSureFor n ws → length steps ≤ n
     → EndNone steps ws
-none_of_sure n steps ws are few = All-weaker (IsSureFor n) (λ w. is_ended_in steps w ≡ false) (λ w sure. sure steps few) ws
+none_of_sure n steps ws are few = All-weaker (IsSureFor n) (λ w. is_ended_in steps w ≡ false) (λ w sure. sure steps few)
+    ws
     are
 
 -- what a step leaves of probes if it ends none of them, and neither do those after it
@@ -91,7 +93,8 @@ going_all step steps (w ∷ ws) none =
 no_line : (step : StepAt) (steps : List StepAt) (ws : List Watch) → EndNone (step ∷ steps) ws → lines_at step ws ≡ []
 no_line step steps [] none = refl
 no_line step steps (w ∷ ws) none =
-    rw (stays step steps w ws none) (no_line step steps ws (All-tail (λ w. is_ended_in (step ∷ steps) w ≡ false) w ws none))
+    rw (stays step steps w ws none) (no_line step steps ws
+    (All-tail (λ w. is_ended_in (step ∷ steps) w ≡ false) w ws none))
 
 pub no_lines : (steps : List StepAt) (ws : List Watch) → EndNone steps ws → lines_after steps ws ≡ []
 no_lines [] ws none = refl
@@ -217,5 +220,6 @@ marks_told (step ∷ steps) limit count marks h none =
     let w = step_observed step (coverage limit count marks) in
     let up : risen count < 2 ^ 64 = grind (arith) in
     rw (not_either (has_ended w) (is_ended_in steps w) none)
-    (marks_told steps limit (risen count) (marked step.place marks) up (nor_other (has_ended w) (is_ended_in steps w) none)
+    (marks_told steps limit (risen count) (marked step.place marks) up
+    (nor_other (has_ended w) (is_ended_in steps w) none)
     ∙ ap (λ n. coverage limit n (marked_all steps (marked step.place marks))) (risen_more count (length steps) h))

@@ -6,7 +6,8 @@ use Rattle.std.specs.List.{filter, remove, slice_set, slice_index_or}
 use Rattle.std.proofs.lemmas.List.{map-append, append-nil, length-map}
 use Rattle.std.proofs.lemmas.List.Elements.{filter-append}
 use Rattle.rpp_probes.specs.declared.probe.StepAt.{StepAt}
-use Rattle.rpp_probes.specs.Tally.{Watch, step_observed, has_ended, watch_line, going, lines_at, IsCutShort, TellsAt, DropsAt}
+use Rattle.rpp_probes.specs.Tally.{Watch, step_observed, has_ended, watch_line, going, lines_at, IsCutShort, TellsAt}
+use Rattle.rpp_probes.specs.Tally.{DropsAt}
 
 -- ---- parts of a list
 
@@ -114,9 +115,11 @@ one_goes step at ws now next before after goes h t on =
     let same = same_parts (going step h.front) t.front h.behind (t.one ∷ t.behind) (h.count ∙ sym t.count)
     (sym h.stands ∙ t.parts) in
     let not_ended : not (has_ended (step_observed step t.one)) ≡ true = sym t.goes_on ∙ on in
-    let ended : has_ended (step_observed step t.one) ≡ false = not_true (has_ended (step_observed step t.one)) not_ended in
+    let ended : has_ended (step_observed step t.one) ≡ false =
+    not_true (has_ended (step_observed step t.one)) not_ended in
     let more : going step (h.front ++ t.one ∷ []) ≡ going step h.front ++ step_observed step t.one ∷ [] =
-    going_more step h.front t.one ∙ ap (λ (b : Bool). going step h.front ++ (if b then step_observed step t.one ∷ [] else []))
+    going_more step h.front t.one ∙ ap (λ (b : Bool). going step h.front
+    ++ (if b then step_observed step t.one ∷ [] else []))
     not_ended in
     record {
       front = h.front ++ t.one ∷ [];
@@ -125,7 +128,8 @@ one_goes step at ws now next before after goes h t on =
       stands = t.left ∙ ap (λ l. l ++ step_observed step t.one ∷ t.behind) (sym same.fronts)
           ∙ sym (append_assoc (going step h.front) (step_observed step t.one ∷ []) t.behind)
           ∙ ap (λ l. l ++ t.behind) (sym more);
-      count = ap (λ (l : List Watch). length l) more ∙ length-append (going step h.front) (step_observed step t.one ∷ [])
+      count = ap (λ (l : List Watch). length l) more ∙ length-append (going step h.front)
+          (step_observed step t.one ∷ [])
           ∙ ap (λ n. n + 1) h.count;
       lines = h.lines ∙ ap (λ l. before ++ l)
           (sym (lines_more step h.front t.one ∙ ap (λ (b : Bool). lines_at step h.front
@@ -145,14 +149,18 @@ pub one_ends : (step : StepAt) (at : ℕ) (ws now next last : List Watch) (befor
 one_ends step at ws now next last before after later goes h t off d =
     let same = same_parts (going step h.front) t.front h.behind (t.one ∷ t.behind) (h.count ∙ sym t.count)
     (sym h.stands ∙ t.parts) in
-    let dropped = same_parts t.front d.front (step_observed step t.one ∷ t.behind) (d.one ∷ d.behind) (t.count ∙ sym d.count)
+    let dropped = same_parts t.front d.front (step_observed step t.one ∷ t.behind) (d.one ∷ d.behind)
+    (t.count ∙ sym d.count)
     (sym t.left ∙ d.parts) in
-    let one : step_observed step t.one ≡ d.one = head_same (step_observed step t.one) d.one t.behind d.behind dropped.behinds in
+    let one : step_observed step t.one ≡ d.one = head_same (step_observed step t.one) d.one t.behind d.behind
+    dropped.behinds in
     let behind : t.behind ≡ d.behind = tail_same (step_observed step t.one) d.one t.behind d.behind dropped.behinds in
     let not_ended : not (has_ended (step_observed step t.one)) ≡ false = sym t.goes_on ∙ off in
-    let ended : has_ended (step_observed step t.one) ≡ true = not_false (has_ended (step_observed step t.one)) not_ended in
+    let ended : has_ended (step_observed step t.one) ≡ true =
+    not_false (has_ended (step_observed step t.one)) not_ended in
     let more : going step (h.front ++ t.one ∷ []) ≡ going step h.front =
-    going_more step h.front t.one ∙ ap (λ (b : Bool). going step h.front ++ (if b then step_observed step t.one ∷ [] else []))
+    going_more step h.front t.one ∙ ap (λ (b : Bool). going step h.front
+    ++ (if b then step_observed step t.one ∷ [] else []))
     not_ended ∙ append-nil (going step h.front) in
     record {
       front = h.front ++ t.one ∷ [];

@@ -175,6 +175,7 @@ module _ (run new : Run) (task : task_of new.task ≡ inverse (task_of run.task)
     marked = s.marked;
     opens = opens;
     within = let c = count_inverse (task_of run.task) in
-        let d : statement_count (task_of new.task) ≡ statement_count (inverse (task_of run.task)) = ap statement_count task in
+        let d : statement_count (task_of new.task) ≡ statement_count (inverse (task_of run.task)) =
+        ap statement_count task in
         omega arith;
   })

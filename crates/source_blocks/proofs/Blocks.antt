@@ -37,7 +37,8 @@ at_front (suc at) End b h = absurd (omega arith)
 at_front zero (Then s rest) b h = refl
 at_front (suc at) (Then s rest) b h = at_front at rest b (omega arith)
 
-at_back : (at : ℕ) (a b : Statements) (k : ℕ) → k ≡ statement_count a + at → statement_at k (joined a b) ≡ statement_at at b
+at_back : (at : ℕ) (a b : Statements) (k : ℕ) → k ≡ statement_count a + at
+    → statement_at k (joined a b) ≡ statement_at at b
 at_back at End b k e = let same : k ≡ at = omega arith in ap (λ n. statement_at n b) same
 at_back at (Then s rest) b zero e = absurd (omega arith)
 at_back at (Then s rest) b (suc k) e = at_back at rest b k (omega arith)
@@ -45,7 +46,8 @@ at_back at (Then s rest) b (suc k) e = at_back at rest b k (omega arith)
 pub count_inverse : (body : Statements) → statement_count (inverse body) ≡ statement_count body
 count_inverse End = refl
 count_inverse (Then s rest) =
-    let e : statement_count (joined (inverse rest) (Then (inverse_statement s) End)) ≡ statement_count (inverse rest) + 1 =
+    let e : statement_count (joined (inverse rest) (Then (inverse_statement s) End))
+    ≡ statement_count (inverse rest) + 1 =
     count_joined (inverse rest) (Then (inverse_statement s) End) in
     let f = count_inverse rest in
     omega arith
@@ -115,11 +117,13 @@ line_backward block false at i s b h e = cc
 pub made_count : (first last : Statement) (body : Statements)
     → statement_count (Then first (joined body (Then last End))) ≡ 2 + statement_count body
 made_count first last body =
-    let e : statement_count (joined body (Then last End)) ≡ statement_count body + 1 = count_joined body (Then last End) in
+    let e : statement_count (joined body (Then last End)) ≡ statement_count body + 1 =
+    count_joined body (Then last End) in
     omega arith
 
 pub made_inside : (first last : Statement) (body : Statements) (at before : ℕ) → at ≡ suc before
-    → before < statement_count body → statement_at before body ≡ statement_at at (Then first (joined body (Then last End)))
+    → before < statement_count body → statement_at before body
+    ≡ statement_at at (Then first (joined body (Then last End)))
 made_inside first last body at before e h =
     sym (at_front before body (Then last End) h)
     ∙ ap (λ n. statement_at n (Then first (joined body (Then last End)))) (sym e)

@@ -35,7 +35,8 @@ not_went : {A : Type 0} (code : ℕ) (end : A) (o : Option ℕ) (left : ℕ) →
 not_went code end None left e = cc
 not_went code end (Some k) left e = cc
 
-stopped_is : {A : Type 0} (x code : ℕ) (o : Option ℕ) (left : ℕ) → stopped_metered {A = A} x o ≡ Stopped code left → x ≡ code
+stopped_is : {A : Type 0} (x code : ℕ) (o : Option ℕ) (left : ℕ) → stopped_metered {A = A} x o ≡ Stopped code left
+    → x ≡ code
 stopped_is x code None left e = cc
 stopped_is x code (Some k) left e = cc
 
@@ -154,7 +155,8 @@ module _ (program : Source) (limits : Limits) (input : List FieldWord) where
       }
 
   -- the next step stops with a fault, and leaves the run where it was
-  pub fails_there : (steps : ℕ) (e there : ExecutionStanding) (code fuel left : ℕ) → HasStepped steps e fuel → steps < MOST_STEPS
+  pub fails_there : (steps : ℕ) (e there : ExecutionStanding) (code fuel left : ℕ) → HasStepped steps e fuel
+      → steps < MOST_STEPS
       → metered fuel (next (setting_at e) (config_at e)) ≡ Stopped code left → config_at there ≡ config_at e
       → setting_at there ≡ setting_at e → there.broken ≡ false
       → IsFailing program limits input (record { execution = there; code = code })

@@ -70,7 +70,8 @@ gone_fails first now later before fuel left why h e =
     }
 
 -- the same of an error that is passed on
-pub gone_breaks : {E : Type 0} (first now later : ExecutionStanding) (before fuel left : ℕ) (why : Stop) (r : Result E Stop)
+pub gone_breaks : {E : Type 0} (first now later : ExecutionStanding) (before fuel left : ℕ) (why : Stop)
+    (r : Result E Stop)
     → IsErrAnd r (λ e. e ≡ why) → HasGone first now before fuel
     → Failed why left (metered fuel (next (setting_at now) (config_at now))) → Walks first later before r left
 gone_breaks first now later before fuel left why (Ok x) e h f = absurd e

@@ -47,7 +47,8 @@ module _ (run : Run) where
       subst (λ (rest : Statements). MayStopAt rest why) (sym (rest_here run.at (task_of run.task) h))
       (subst (λ (t : Statement). MayStop t why) (sym here) may)
 
-  pub unpaid_so : (why : Stop) → run.at < statement_count (task_of run.task) → IsOwn why → MayStopAt (config_of run).rest why
+  pub unpaid_so : (why : Stop) → run.at < statement_count (task_of run.task) → IsOwn why
+      → MayStopAt (config_of run).rest why
   unpaid_so why h own = subst (λ (rest : Statements). MayStopAt rest why) (sym (rest_here run.at (task_of run.task) h))
       (own_may (here_in run) why own)
 

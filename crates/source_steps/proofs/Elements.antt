@@ -47,6 +47,7 @@ meets_one program st name (Binary at op left right) =
     ∙ sym (among_both program st name (elements left) (elements right))
 
 pub meets_both : (program : Source) (st : State) (name : Ident) (a b : Expression)
-    → meets_array program st (variable_value program st name.text) a || meets_array program st (variable_value program st name.text)
+    → meets_array program st (variable_value program st name.text) a || meets_array program st
+    (variable_value program st name.text)
     b ≡ is_among program st name (elements a ++ elements b)
 meets_both program st name a b = meets_one program st name (Binary 0 op.Add a b)

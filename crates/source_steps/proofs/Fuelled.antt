@@ -8,7 +8,8 @@ use Rattle.source_store.specs.roopl_semantics.Store.{State}
 use Rattle.source_store.specs.roopl_semantics.Run.{Run, Done, Fault, More, after_cost, ◌>>=◌, give}
 use Rattle.source_steps.specs.declared.stop.Stop.{Stop}
 use Rattle.source_steps.specs.declared.stop.Stop.TheVariants as stop
-use Rattle.source_steps.specs.Metered.{Metered, Went, Out, left_of, went, stopped_metered, metered, metered_chain, Failed}
+use Rattle.source_steps.specs.Metered.{Metered, Went, Out, left_of, went, stopped_metered, metered, metered_chain}
+use Rattle.source_steps.specs.Metered.{Failed}
 use Rattle.source_steps.specs.Metered.{MeteredGives, IsOwn, IsOwnOrFull}
 
 pub left_yes : (fuel cost : ℕ) → cost ≤ fuel → left_of fuel cost ≡ Some (fuel - cost)
@@ -104,7 +105,8 @@ pub fails : {A B : Type 0} (fuel left : ℕ) (run : Run A) (next : A → Run B) 
     → Failed why left (metered fuel run) → Failed why left (metered fuel (run >>= next))
 fails fuel left run next (stop.Fault code) e = metered_then fuel run next
     ∙ ap (λ m. metered_chain m (λ b l. metered l (next b))) e
-fails fuel left run next stop.More e = metered_then fuel run next ∙ ap (λ m. metered_chain m (λ b l. metered l (next b))) e
+fails fuel left run next stop.More e = metered_then fuel run next
+    ∙ ap (λ m. metered_chain m (λ b l. metered l (next b))) e
 fails fuel left run next (stop.Lacks lack) e = tt
 
 -- a run that stopped by itself did so with no allocation refused

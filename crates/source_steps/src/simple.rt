@@ -88,7 +88,7 @@ fn update_element(
     Ok(())
 }
 
-/// An update.
+/// Adds a value to a place, subtracts it, or takes the exclusive or.
 pub fn update(
     setting: &Setting,
     scope: &Scope,
@@ -115,7 +115,7 @@ pub fn update(
     }
 }
 
-/// A swap.
+/// Exchanges the values of two places.
 pub fn swap(
     setting: &Setting,
     scope: &Scope,

@@ -10,7 +10,8 @@ use Rattle.std.specs.Option.{unwrap_or}
 use Rattle.meaning_machine.specs.rpp_words.Order.{IsOrderFor}
 use Rattle.meaning_machine.specs.rpp_words.declared.input.TheConstants.{HEADER_WORDS}
 use Rattle.meaning_machine.specs.buddy_book.Book.{Book, start, take, give_back, order_for}
-use Rattle.meaning_machine.specs.buddy_book.Place.{Log, Taken, Given, count_taken, block_of, without_name, with_block, after_request}
+use Rattle.meaning_machine.specs.buddy_book.Place.{Log, Taken, Given, count_taken, block_of, without_name, with_block}
+use Rattle.meaning_machine.specs.buddy_book.Place.{after_request}
 use Rattle.meaning_machine.specs.buddy_book.Place.{place}
 use Rattle.meaning_machine.specs.buddy_book.Shown.{Shown, TakenBlocks, order_in, with_taken, without_taken}
 use Rattle.meaning_machine.proofs.buddy_book_laws.LeastOrder.{order_for-only}
@@ -27,7 +28,8 @@ use Rattle.meaning_machine.proofs.roopl_semantics_laws.Orders.{order_from_one, h
 use Rattle.source_store.specs.declared.object.Object.{Object as Live}
 use Rattle.source_store.specs.declared.requests.Request.{Request as Asked}
 use Rattle.source_store.specs.ValueView.{value_of, values_of, object_of}
-use Rattle.source_store.specs.HeapView.{Kept, kept_of, store_of, heap_request, log_of, live_in, block_and_size, live_block_in}
+use Rattle.source_store.specs.HeapView.{Kept, kept_of, store_of, heap_request, log_of, live_in, block_and_size}
+use Rattle.source_store.specs.HeapView.{live_block_in}
 use Rattle.source_store.specs.HeapView.{live_block_at, IsBlock, IsBookPlaced, IsHeap, SameBlocks, TookBlock}
 use Rattle.source_store.proofs.Tables.{differs, object_named_store, pushed_length, pushed_store, pushed_block}
 use Rattle.source_store.proofs.Tables.{block_before, block_past, cleared_store, cleared_block, other_block}
@@ -285,8 +287,10 @@ starts_so order book table first requests from to is items alone nothing =
         kept = rw is (start-kept order 2097152 from to (omega arith));
         blocks = [];
         placed = rw is refl;
-        each = λ name address size e. absurd (no_block name address size (ap (λ t. live_block_at t name) (sym items) ∙ e));
-        apart = λ n m address size other a b. absurd (no_block n address size (ap (λ t. live_block_at t n) (sym items) ∙ a));
+        each = λ name address size e. absurd (no_block name address size
+            (ap (λ t. live_block_at t name) (sym items) ∙ e));
+        apart = λ n m address size other a b. absurd (no_block n address size
+            (ap (λ t. live_block_at t n) (sym items) ∙ a));
         undone = tt;
       };
     })
@@ -318,7 +322,8 @@ module _ (order : ℕ) (book after : Shown) (table : List (Option Live)) (reques
       → IsHeap order after (table ++ Some live ∷ []) (requests ++ asked ∷ [])
   took_heap few taken whole =
       let full = with_taken_block book after (at - book.base) k taken whole in
-      let placed = took_placed book (live_block_at table) (live_block_at (table ++ Some live ∷ [])) (log_of requests) heap.placed
+      let placed = took_placed book (live_block_at table) (live_block_at (table ++ Some live ∷ [])) (log_of requests)
+      heap.placed
       (length table) (length live.cells.items) k at after.free is base took
       (pushed_block table live (length table) refl ∙ ap (λ b. block_and_size b (length live.cells.items)) block)
       (λ n other. block_before table live n other) in
@@ -430,7 +435,8 @@ module _ (order : ℕ) (book : Shown) (table : List (Option Live)) (requests : L
         ∙ ap (give_back book.free (order_of_cells size)) block)
         ∙ ap (given_to book (give_back book.free (order_of_cells size) (block_of heap.placed.blocks name)))
         (taken ∙ ap (λ b. without_taken b book.taken) block) in
-        let placed = gave_placed book (live_block_at table) (live_block_at (slice_set table name None)) (log_of requests)
+        let placed = gave_placed book (live_block_at table) (live_block_at (slice_set table name None))
+        (log_of requests)
         heap.placed name size at there (cleared_block table name in_table)
         (λ n other. other_block table name n other) in
         record {
@@ -438,7 +444,8 @@ module _ (order : ℕ) (book : Shown) (table : List (Option Live)) (requests : L
           next = let p = length-set table name None in let h = heap.next in let l = ap (λ l. count_taken l) log_given in
               omega arith;
           few = let p = length-set table name None in let f = heap.few in omega arith;
-          placed = subst (λ b. IsBookPlaced b (live_block_at (slice_set table name None)) (log_of (requests ++ asked ∷ [])))
+          placed = subst (λ b. IsBookPlaced b (live_block_at (slice_set table name None))
+              (log_of (requests ++ asked ∷ [])))
               (sym full) (subst (λ l. IsBookPlaced (given_to book (give_back book.free (order_of_cells size)
               (block_of heap.placed.blocks name)) (without_taken (block_of heap.placed.blocks name) book.taken))
               (live_block_at (slice_set table name None)) l) (sym log_given) placed);

@@ -1,16 +1,19 @@
 -- The table of objects as a store.
-use Rattle.std.proofs.Common.{◌≡◌, ℕ, zero, suc, ◌+◌, ◌<◌, ◌≤◌, refl, sym, ap, subst, ◌∙◌, arith, List, [], ◌∷◌, ◌++◌, length}
+use Rattle.std.proofs.Common.{◌≡◌, ℕ, zero, suc, ◌+◌, ◌<◌, ◌≤◌, refl, sym, ap, subst, ◌∙◌, arith, List, [], ◌∷◌, ◌++◌}
+use Rattle.std.proofs.Common.{length}
 use Rattle.std.proofs.Common.{length-set}
 use Rattle.std.proofs.Common.{Some, None, eq-eqb, Bool, true, false, if◌then◌else◌, map}
 use Rattle.std.proofs.lemmas.Bool.{eqb-true, eqb-false, ltb-true, ltb-false, lt-ltb, le-ltb}
 use Rattle.std.proofs.lemmas.Option.{slice_get_past}
 use Rattle.std.specs.Prelude.{Result, Ok, Err, OnOk, OnErr, Option, slice_get, slice_set, nat_eq, nat_lt}
 use Rattle.std.specs.Option.{option_map, unwrap_or}
-use Rattle.meaning_machine.specs.roopl_semantics.Store.{Object, Store, object_named, object_at, no_object, changed_at, without}
+use Rattle.meaning_machine.specs.roopl_semantics.Store.{Object, Store, object_named, object_at, no_object, changed_at}
+use Rattle.meaning_machine.specs.roopl_semantics.Store.{without}
 use Rattle.meaning_machine.specs.Reversed.{put_back}
 use Rattle.source_store.specs.declared.object.Object.{Object as Live}
 use Rattle.source_store.specs.ValueView.{object_of}
-use Rattle.source_store.specs.HeapView.{live_in, live_at, listed, numbered_listing, store_of, live_block_in, live_block_at, SameBlocks}
+use Rattle.source_store.specs.HeapView.{live_in, live_at, listed, numbered_listing, store_of, live_block_in}
+use Rattle.source_store.specs.HeapView.{live_block_at, SameBlocks}
 
 pub differs : (a b : ℕ) → (a ≡ b → ⊥) → nat_eq a b ≡ false
 differs a b h = by (nat_eq a b) refl
@@ -61,7 +64,8 @@ object_named_store table name = by (nat_lt name (length table)) refl
         let past : length table ≤ name = ltb-false name (length table) e in
         listing_out (length table) (live_at table) name past ∙ sym (ap live_in (slice_get_past table name past))
 
-listing_same : {A : Type 0} (n : ℕ) (f g : ℕ → Option A) → ((i : ℕ) → i < n → f i ≡ g i) → numbered_listing n f ≡ numbered_listing n g
+listing_same : {A : Type 0} (n : ℕ) (f g : ℕ → Option A) → ((i : ℕ) → i < n → f i ≡ g i)
+    → numbered_listing n f ≡ numbered_listing n g
 listing_same zero f g h = refl
 listing_same (suc n) f g h = ap (λ x. listed n x (numbered_listing n f)) (h n (omega arith))
     ∙ ap (λ r. listed n (g n) r) (listing_same n f g (λ i l. h i (omega arith)))
@@ -91,11 +95,13 @@ changed_in zero f g name change h here there = absurd (omega arith)
 changed_in (suc n) f g name change h here there = by (λ l. changed_in n f g name change l here there) (nat_eq n name)
     refl
   where
-    by : (name < n → changed_at (numbered_listing n f) name change ≡ numbered_listing n g) → (t : Bool) → nat_eq n name ≡ t
+    by : (name < n → changed_at (numbered_listing n f) name change ≡ numbered_listing n g) → (t : Bool)
+        → nat_eq n name ≡ t
         → changed_at (numbered_listing (suc n) f) name change ≡ numbered_listing (suc n) g
     by below true e =
         let same : n ≡ name = eqb-true n name e in
-        let rest : numbered_listing n f ≡ numbered_listing n g = listing_same n f g (λ i l. sym (there i (λ k. omega arith))) in
+        let rest : numbered_listing n f ≡ numbered_listing n g =
+        listing_same n f g (λ i l. sym (there i (λ k. omega arith))) in
         let top : option_map change (f n) ≡ g n = ap (λ k. option_map change (f k)) same
         ∙ (sym here ∙ ap g (sym same)) in
         ap (λ k. changed_at (numbered_listing (suc n) f) k change) (sym same)
@@ -136,7 +142,8 @@ changed_past table name change h = sym (changed_out (length table) (live_at tabl
 -- ---- the table with a slot changed
 
 pub same_blocks : (table : List (Option Live)) (name : ℕ) (old slot : Option Live) → slice_get table name ≡ Some old
-    → live_block_in (Some slot) ≡ live_block_in (Some old) → name < length table → SameBlocks table (slice_set table name slot)
+    → live_block_in (Some slot) ≡ live_block_in (Some old) → name < length table
+    → SameBlocks table (slice_set table name slot)
 same_blocks table name old slot at e h = record {
   length = length-set table name slot;
   blocks = λ k. by k (nat_eq k name) refl;
@@ -151,7 +158,8 @@ same_blocks table name old slot at e h = record {
 
 -- ---- the table without an object
 
-without_out : (n : ℕ) (f : ℕ → Option Object) (name : ℕ) → n ≤ name → without (numbered_listing n f) name ≡ numbered_listing n f
+without_out : (n : ℕ) (f : ℕ → Option Object) (name : ℕ) → n ≤ name
+    → without (numbered_listing n f) name ≡ numbered_listing n f
 without_out zero f name h = refl
 without_out (suc n) f name h = by (without_out n f name (omega arith)) (f n)
   where
@@ -179,7 +187,8 @@ without_in (suc n) f g name h gone there = by (λ l. without_in n f g name l gon
         → without (numbered_listing (suc n) f) name ≡ numbered_listing (suc n) g
     by below true e =
         let same : n ≡ name = eqb-true n name e in
-        let rest : numbered_listing n f ≡ numbered_listing n g = listing_same n f g (λ i l. sym (there i (λ k. omega arith))) in
+        let rest : numbered_listing n f ≡ numbered_listing n g =
+        listing_same n f g (λ i l. sym (there i (λ k. omega arith))) in
         ap (without (numbered_listing (suc n) f)) (sym same)
         ∙ first (f n) (numbered_listing n f) (without_out n f n (omega arith))
         ∙ rest
@@ -229,7 +238,8 @@ put_above (suc n) f name o h = by (put_above n f name o (omega arith)) (f n)
 put_inside : (n : ℕ) (f g : ℕ → Option Object) (name : ℕ) (o : Object) → name < n → f name ≡ None → g name ≡ Some o
     → ((i : ℕ) → (i ≡ name → ⊥) → g i ≡ f i) → put_back (numbered_listing n f) name o ≡ numbered_listing n g
 put_inside zero f g name o h gone here there = absurd (omega arith)
-put_inside (suc n) f g name o h gone here there = by (λ l. put_inside n f g name o l gone here there) (nat_eq n name) refl
+put_inside (suc n) f g name o h gone here there = by (λ l. put_inside n f g name o l gone here there) (nat_eq n name)
+    refl
   where
     later : (x : Option Object) (rest : Store) → name < n
         → put_back (listed n x rest) name o ≡ listed n x (put_back rest name o)
@@ -241,7 +251,8 @@ put_inside (suc n) f g name o h gone here there = by (λ l. put_inside n f g nam
         → put_back (numbered_listing (suc n) f) name o ≡ numbered_listing (suc n) g
     by below true e =
         let same : n ≡ name = eqb-true n name e in
-        let rest : numbered_listing n f ≡ numbered_listing n g = listing_same n f g (λ i l. sym (there i (λ k. omega arith))) in
+        let rest : numbered_listing n f ≡ numbered_listing n g =
+        listing_same n f g (λ i l. sym (there i (λ k. omega arith))) in
         ap (λ x. put_back (listed n x (numbered_listing n f)) name o) (ap f same ∙ gone)
         ∙ put_above n f name o (omega arith) ∙ ap (λ k. (k, o) ∷ numbered_listing n f) (sym same)
         ∙ ap (λ r. (n, o) ∷ r) rest ∙ ap (λ x. listed n x (numbered_listing n g)) (sym (ap g same ∙ here))
@@ -256,7 +267,8 @@ pub filled_store : (table : List (Option Live)) (name : ℕ) (live : Live) → s
     → store_of (slice_set table name (Some live)) ≡ put_back (store_of table) name (object_of live)
 filled_store table name live free h =
     ap (λ n. numbered_listing n (live_at (slice_set table name (Some live)))) (length-set table name (Some live))
-    ∙ sym (put_inside (length table) (live_at table) (live_at (slice_set table name (Some live))) name (object_of live) h
+    ∙ sym (put_inside (length table) (live_at table) (live_at (slice_set table name (Some live))) name (object_of live)
+    h
     (ap live_in free) (ap live_in (get_set_same table name (Some live) h))
     (λ i other. ap live_in (get_set_other table name i (Some live) other)))
 
@@ -362,5 +374,6 @@ named_past table name h = listing_out (length table) (live_at table) name h
 pub listing_next : {A : Type 0} (n m : ℕ) (f : ℕ → Option A) → m ≡ n + 1
     → length (numbered_listing m f) ≡ length (listed n (f n) []) + length (numbered_listing n f)
 listing_next n zero f e = absurd (omega arith)
-listing_next n (suc k) f e = let same : k ≡ n = omega arith in ap (λ i. length (listed i (f i) (numbered_listing i f))) same
+listing_next n (suc k) f e = let same : k ≡ n = omega arith in
+    ap (λ i. length (listed i (f i) (numbered_listing i f))) same
     ∙ listed_more n (f n) (numbered_listing n f)

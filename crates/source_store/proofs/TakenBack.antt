@@ -135,14 +135,16 @@ module _ (order : ℕ) (book : Shown) (table shrunk : List (Option Live)) (reque
         free = give_back book.free (order_of_cells size) (block_of heap.placed.blocks name);
         taken = without_taken (block_of heap.placed.blocks name) book.taken;
       } = all ∙ ap (λ f. record { h = book.h; base = book.base; free = f; taken = after.taken })
-      (free ∙ ap (λ j. give_back book.free j (at - book.base)) is ∙ ap (give_back book.free (order_of_cells size)) block)
+      (free ∙ ap (λ j. give_back book.free j (at - book.base)) is
+      ∙ ap (give_back book.free (order_of_cells size)) block)
       ∙ ap (λ t. record {
         h = book.h;
         base = book.base;
         free = give_back book.free (order_of_cells size) (block_of heap.placed.blocks name);
         taken = t;
       }) (taken ∙ ap (λ b. without_taken b book.taken) block) in
-      let gave = gave_placed book (live_block_at table) (live_block_at shrunk) (log_of requests) heap.placed name size at there
+      let gave = gave_placed book (live_block_at table) (live_block_at shrunk) (log_of requests) heap.placed name size
+      at there
       (block_past shrunk name (omega (arith, many))) stays in
       let P : Log → Type 0 = λ l. AreUndone book.h l in
       let undone = subst P log_before heap.placed.undone in
@@ -157,7 +159,8 @@ module _ (order : ℕ) (book : Shown) (table shrunk : List (Option Live)) (reque
         same = ap (λ b. b.h) full ∙ heap.same;
         next = let h = heap.next in let l = ap (λ l. count_taken l) log_before in let m = many in omega arith;
         few = let f = heap.few in let m = many in omega arith;
-        placed = subst S (sym full) (relaid _ (live_block_at shrunk) (Given name (order_of_cells size) ∷ log_of requests)
+        placed = subst S (sym full) (relaid _ (live_block_at shrunk)
+            (Given name (order_of_cells size) ∷ log_of requests)
             (log_of fewer) gave same undone.1);
       }
 
@@ -212,7 +215,8 @@ module _ (order : ℕ) (book : Shown) (table : List (Option Live)) (requests few
         next = let p = length-set table name (Some live) in let h = heap.next in let l =
             ap (λ l. count_taken l) log_of_give in omega arith;
         few = let p = length-set table name (Some live) in let f = heap.few in omega arith;
-        placed = subst S (sym full) (relaid _ (live_block_at after_table) (Taken name k ∷ log_of requests) (log_of fewer)
+        placed = subst S (sym full) (relaid _ (live_block_at after_table) (Taken name k ∷ log_of requests)
+            (log_of fewer)
             placed (subst R (sym log_of_give) undone.0) undone.1);
       }
 

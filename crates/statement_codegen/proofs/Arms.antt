@@ -200,7 +200,8 @@ pub if_arm : {E : Type 0} (v : Visible) (x : Statement) (at : ℕ) (test after :
     (one two : Code) (r : Result Code E) → x ≡ If at test taken other after → StatementStands v x
     → BlockPiece v taken one → BlockPiece v other two
     → IfOk r (λ p. IfLaw (known_in v) test after one.cells two.cells p.cells) → IfOk r (λ p. HoldsBoth two one p)
-    → IfOk r (λ p. length p.cells ≤ 58 * (token_count test + token_count after) + length one.cells + length two.cells + 18)
+    → IfOk r (λ p. length p.cells ≤ 58 * (token_count test + token_count after) + length one.cells + length two.cells +
+    18)
     → IfOk r (λ p. InnerPiece v x p)
 if_arm v x at test after taken other one two (Err e) is h a b law holds size = tt
 if_arm v x at test after taken other one two (Ok p) is h a b law holds size =
@@ -211,7 +212,8 @@ pub from_arm : {E : Type 0} (v : Visible) (x : Statement) (at : ℕ) (entry exit
     (one two : Code) (r : Result Code E) → x ≡ From at entry first again exit → StatementStands v x
     → BlockPiece v first one → BlockPiece v again two
     → IfOk r (λ p. FromLaw (known_in v) entry exit one.cells two.cells p.cells) → IfOk r (λ p. HoldsBoth two one p)
-    → IfOk r (λ p. length p.cells ≤ 58 * (token_count entry + token_count exit) + length one.cells + length two.cells + 18)
+    → IfOk r (λ p. length p.cells ≤ 58 * (token_count entry + token_count exit) + length one.cells + length two.cells +
+    18)
     → IfOk r (λ p. InnerPiece v x p)
 from_arm v x at entry exit first again one two (Err e) is h a b law holds size = tt
 from_arm v x at entry exit first again one two (Ok p) is h a b law holds size =
@@ -237,7 +239,8 @@ pub if_made : {E : Type 0} (v w u : Visible) (x : Statement) (at : ℕ) (test af
     → StatementStands v x
     → w ≡ v → u ≡ w → BlockPiece v taken one → BlockPiece w other two
     → IfOk r (λ p. IfLaw (known_in u) test after one.cells two.cells p.cells) → IfOk r (λ p. HoldsBoth two one p)
-    → IfOk r (λ p. length p.cells ≤ 58 * (token_count test + token_count after) + length one.cells + length two.cells + 18)
+    → IfOk r (λ p. length p.cells ≤ 58 * (token_count test + token_count after) + length one.cells + length two.cells +
+    18)
     → IfOk r (λ p. InnerPiece v x p)
 if_made v w u x at test after taken other one two r is h e f a b law holds size =
     if_arm v x at test after taken other one two r is h a (subst (λ z. BlockPiece z other two) e b)
@@ -248,7 +251,8 @@ pub from_made : {E : Type 0} (v w u : Visible) (x : Statement) (at : ℕ) (entry
     → StatementStands v x
     → w ≡ v → u ≡ w → BlockPiece v first one → BlockPiece w again two
     → IfOk r (λ p. FromLaw (known_in u) entry exit one.cells two.cells p.cells) → IfOk r (λ p. HoldsBoth two one p)
-    → IfOk r (λ p. length p.cells ≤ 58 * (token_count entry + token_count exit) + length one.cells + length two.cells + 18)
+    → IfOk r (λ p. length p.cells ≤ 58 * (token_count entry + token_count exit) + length one.cells + length two.cells +
+    18)
     → IfOk r (λ p. InnerPiece v x p)
 from_made v w u x at entry exit first again one two r is h e f a b law holds size =
     from_arm v x at entry exit first again one two r is h a (subst (λ z. BlockPiece z again two) e b)

@@ -26,7 +26,8 @@ use Rattle.branch_codegen.specs.roopl_semantics.Execution.{same_cell, exec}
 use Rattle.branch_codegen.proofs.meaning_sound_laws.Classes.{KnowsClasses}
 use Rattle.branch_codegen.proofs.meaning_sound_laws.Stores.{same_number}
 use Rattle.branch_codegen.proofs.meaning_sound_laws.Names.{IsMeant, meant}
-use Rattle.branch_codegen.proofs.meaning_sound_laws.Calls.{name_in, or_left, NamesApart as NameApart, AllNamesApart, apart_after}
+use Rattle.branch_codegen.proofs.meaning_sound_laws.Calls.{name_in, or_left, NamesApart as NameApart, AllNamesApart}
+use Rattle.branch_codegen.proofs.meaning_sound_laws.Calls.{apart_after}
 use Rattle.branch_codegen.proofs.meaning_sound_laws.Calls.{all_apart_after, meant_apart}
 use Rattle.branch_codegen.proofs.meaning_sound_laws.Keeping.{exec_keeps}
 use Rattle.refine_form.specs.declared.spot.Spot.{Spot}
@@ -36,8 +37,10 @@ use Rattle.refine_form.specs.Stands.{shape_of, spot_in, extra, Stands}
 use Rattle.refine_form.specs.Worlds.{Place, world_of}
 use Rattle.branch_codegen.specs.code_scope.Visible.{Visible, spot_of}
 use Rattle.branch_codegen.specs.method_calls.Facts.{IsNear}
-use Rattle.branch_codegen.specs.method_calls.Names.{AllTyped, HasMethod, method_slot_of, class_found, class_number_named, known_calls_of}
-use Rattle.branch_codegen.specs.method_calls.Laws.{NotAmong, AllApart, AreVariables, OwnCallCode, CallOnCode, MethodCode}
+use Rattle.branch_codegen.specs.method_calls.Names.{AllTyped, HasMethod, method_slot_of, class_found}
+use Rattle.branch_codegen.specs.method_calls.Names.{class_number_named, known_calls_of}
+use Rattle.branch_codegen.specs.method_calls.Laws.{NotAmong, AllApart, AreVariables, OwnCallCode, CallOnCode}
+use Rattle.branch_codegen.specs.method_calls.Laws.{MethodCode}
 use Rattle.branch_codegen.specs.refine_calls.Laws.{IsLinked}
 use Rattle.branch_codegen.proofs.refine_calls_laws.Bridge.{reads_of, typed}
 use Rattle.branch_codegen.proofs.refine_calls_laws.FactsFit.{known}
@@ -109,7 +112,8 @@ module _ (place : Place) (routine : ℕ → Ident → ℕ) (linked : IsLinked pl
   classes = known program linked.accepted
 
   variables_are : (args : List Ident) (ks : List Kind) → AllTyped program s args ks
-      → All IsNear (map (stands_at program s) args) → AreVariables (world_of place) (known_calls_of place routine) s args
+      → All IsNear (map (stands_at program s) args) → AreVariables (world_of place) (known_calls_of place routine) s
+      args
   variables_are [] [] t near = tt
   variables_are [] (k ∷ ks) t near = absurd t
   variables_are (x ∷ args) [] t near = absurd t
@@ -233,7 +237,8 @@ own_returns v back method args slot spots (Err none) made code = tt
 
 pub on_returns : {E : Type 0} (v : Visible) (back : Bool) (x method : Ident) (args : List Ident) (spot : Spot)
     (slot : ℕ) (spots : List Spot) (r : Result Code E) → stands_at (source_of v.program) (scope_of v) x ≡ spot
-    → IsNear spot → MadeCall (source_of v.program) (scope_of v) (class_number_named (source_of v.program) (scope_of v) x)
+    → IsNear spot → MadeCall (source_of v.program) (scope_of v)
+    (class_number_named (source_of v.program) (scope_of v) x)
     method args slot spots → IfOk r (λ p. CallOnCode back spot slot spots p.cells)
     → IfOk r (λ p. CallLaw v back (Some x) method args p.cells)
 on_returns v back x method args spot slot spots (Ok p) spot_is near made code = record {
@@ -243,7 +248,8 @@ on_returns v back x method args spot slot spots (Ok p) spot_is near made code = 
         ap (λ program. stands_at program (scope_of v) x) same ∙ spot_is in
         on_stands place routine linked (scope_of v) at back x method args slot spots p.cells
         (subst IsNear (sym here) near)
-        (subst (λ program. MadeCall program (scope_of v) (class_number_named program (scope_of v) x) method args slot spots)
+        (subst (λ program. MadeCall program (scope_of v) (class_number_named program (scope_of v) x) method args slot
+        spots)
         (sym same) made)
         (subst (λ k. CallOnCode back k slot spots p.cells) (sym here) code)
         (subst (λ program. check_statement (typing_in program (scope_of v)) (shape_of program (scope_of v))

@@ -16,13 +16,15 @@ use Rattle.branch_codegen.specs.method_calls.Names.{IntInit, IsNull, NilInit, Is
 use Rattle.branch_codegen.specs.method_calls.Laws.{LocalCode}
 use Rattle.branch_codegen.proofs.refine_calls_laws.Stated.{locals_are_open}
 use Rattle.branch_codegen.specs.code_conventions.declared.registers.TheConstants.{VALUE}
-use Rattle.branch_codegen.specs.refine_expressions.Typing.{known_of, visible_spot, free_in_scope, HasFrameSpace, IsTyped}
+use Rattle.branch_codegen.specs.refine_expressions.Typing.{known_of, visible_spot, free_in_scope, HasFrameSpace}
+use Rattle.branch_codegen.specs.refine_expressions.Typing.{IsTyped}
 use Rattle.branch_codegen.specs.refine_expressions.Laws.{IsLaidOut}
 use Rattle.branch_codegen.proofs.refine_expressions_laws.Stated.{values_are_told}
 use Rattle.statement_codegen.specs.Laws.{LocalLaw}
 
 -- the code of a value that may be that of a new variable
-value_in : (known : Known) (e : Expression) (p : List Symbol) → code.ExpressionLaw (spot_of known) (free_words_of known) VALUE e p
+value_in : (known : Known) (e : Expression) (p : List Symbol)
+    → code.ExpressionLaw (spot_of known) (free_words_of known) VALUE e p
     → (place : Place) → IsLaidOut place → (s : Scope) → known_of place.setting.program s ≡ known → (var : Var)
     → IsInit place.setting.program s var e → HasFrameSpace place.setting.program s (words e)
     → ValueLaw (world_of place) s e p
@@ -47,7 +49,8 @@ value_in known e p law place laid s names var init room = by init.value
     by (inr n) = values_are_told place laid s e kind.Nil (nil e n.null room) p law_in
 
 -- the code of nil
-nil_in : (known : Known) (e : Expression) (p : List Symbol) → code.ExpressionLaw (spot_of known) (free_words_of known) VALUE e p
+nil_in : (known : Known) (e : Expression) (p : List Symbol)
+    → code.ExpressionLaw (spot_of known) (free_words_of known) VALUE e p
     → (place : Place) → IsLaidOut place → (s : Scope) → known_of place.setting.program s ≡ known → (at : ℕ)
     → e ≡ Null at → length s.vars < MOST_VARIABLES → ValueLaw (world_of place) s (Null at) p
 nil_in known e p law place laid s names at is few =
@@ -81,7 +84,8 @@ local_clause known var value last word v p x all is hv hx made = record {
 -- ---- what the calls answer
 
 pub local_returns : {E : Type 0} (known : Known) (var : Var) (value last : Expression) (word : ℕ) (v p x : List Symbol)
-    (r : Result Code E) → word ≡ free_words_of known → code.ExpressionLaw (spot_of known) (free_words_of known) VALUE value v
+    (r : Result Code E) → word ≡ free_words_of known → code.ExpressionLaw (spot_of known) (free_words_of known) VALUE
+    value v
     → code.ExpressionLaw (spot_of known) (free_words_of known) VALUE last x → IfOk r (λ y. LocalCode word v p x y.cells)
     → IfOk r (λ y. LocalLaw known var value last p y.cells)
 local_returns known var value last word v p x (Ok y) is hv hx made =

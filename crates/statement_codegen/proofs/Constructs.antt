@@ -22,7 +22,8 @@ use Rattle.branch_codegen.proofs.paired_code_laws.Mirrored.{will_mirror, length_
 use Rattle.branch_codegen.specs.roopl_semantics.Execution.{exec, constructed}
 use Rattle.branch_codegen.specs.roopl_semantics.Store.{State}
 use Rattle.branch_codegen.proofs.meaning_sound_laws.Locals.{no_int_class}
-use Rattle.refine_form.specs.Form.{World, Scope, HasOpenFrame, Owes, StmtLaw, BlockLaw, turned_statement, run_result, one, with_var}
+use Rattle.refine_form.specs.Form.{World, Scope, HasOpenFrame, Owes, StmtLaw, BlockLaw, turned_statement, run_result}
+use Rattle.refine_form.specs.Form.{one, with_var}
 use Rattle.refine_form.specs.Worlds.{world_of}
 use Rattle.refine_form.specs.Held.{HoldsCode}
 use Rattle.refine_form.proofs.Holding.{holds_in}
@@ -52,12 +53,14 @@ module _ (w : World) (s : Scope) (a b : Statements) (p q : List Symbol) (hp : Bl
         let counted : count a ≤ c = cost_counts w.setting n a st x c e in
         will_last w.im false q m1 _ (will_more w.im q false m1 _ _ (λ o t. meets_less (n - c) (omega arith) t)
         ((hq (n - count a) (owes_less w n (n - count a) (omega arith) owes) false u).does x m1 r))) in
-        subst (λ z. Will w.im (p ++ z) false m (Meets (Here u) w.rates n 0 (run_result (exec w.setting n (joined a b) st))))
+        subst (λ z. Will w.im (p ++ z) false m (Meets (Here u) w.rates n 0
+        (run_result (exec w.setting n (joined a b) st))))
         (append-nil q)
         (will_more w.im _ false m _ _ (λ o t. meets_told _ _ (sym (told_joined w.setting n a b st)) t) all)
 
     backward : (n : ℕ) → Owes w n → (u : w.Under) (st : State) (m : Memory) → Here u st m
-        → Will w.im (p ++ q) true m (Meets (Here u) w.rates n 0 (run_result (exec w.setting n (inverse (joined a b)) st)))
+        → Will w.im (p ++ q) true m (Meets (Here u) w.rates n 0
+        (run_result (exec w.setting n (inverse (joined a b)) st)))
     backward n owes u st m h =
         let before = inverse b in
         let g : ℕ → State → RunResult State = λ c x. run_result (exec w.setting (n - count before) (inverse a) x) in
@@ -88,7 +91,8 @@ pub deletes : (w : World) (s : Scope) (at : ℕ) (made : Creation) (target : Lva
 deletes w s at made target p law n owes d u = record {
   does = λ st m h.
       will_mirror w.im p d m _
-      (subst (λ x. Will w.im p (not d) m (Meets (HasOpenFrame w s u) w.rates (suc n) 0 (run_result (one w.setting n x st))))
+      (subst (λ x. Will w.im p (not d) m (Meets (HasOpenFrame w s u) w.rates (suc n) 0
+      (run_result (one w.setting n x st))))
       (turned_new d at made target) ((law n owes (not d) u).does st m h));
 }
 

@@ -110,7 +110,8 @@ module _ (v : Visible) (at : ℕ) (back : Bool) (array : Ident) (index : Express
         let swaps_out = (swap_stands inside at (Whole (element_name at)) (Item array index) h.last h.swaps_out
         swap_allowed).law place routine linked same in
         let calls =
-        (h.calls.law at (subst (λ k. check_statement typing (record { name = []; kind = k } ∷ shape) call ≡ verdict_passed)
+        (h.calls.law at (subst (λ k. check_statement typing (record { name = []; kind = k } ∷ shape) call
+        ≡ verdict_passed)
         (sym kind_there) rules.called)).law place routine linked same in
         subst (λ z. BlockLaw (world_of place) s (element_call at back array index method args) z)
         (ap (λ z. h.first ++ (h.call ++ z)) (append-nil h.last) ∙ sym h.cells)

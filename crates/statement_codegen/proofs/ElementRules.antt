@@ -12,16 +12,22 @@ use Rattle.branch_codegen.specs.class_rules.declared.kind.Kind.{Kind}
 use Rattle.branch_codegen.specs.class_rules.declared.kind.Kind.TheVariants as kind
 use Rattle.branch_codegen.specs.class_rules.Overrides.{parameters_of}
 use Rattle.branch_codegen.specs.class_rules.Table.{slot_in, dispatch_in}
-use Rattle.branch_codegen.specs.class_rules.Refusal.{unknown_name, type_differs, self_update, same_argument, wrong_arity}
+use Rattle.branch_codegen.specs.class_rules.Refusal.{unknown_name, type_differs, self_update, same_argument}
+use Rattle.branch_codegen.specs.class_rules.Refusal.{wrong_arity}
 use Rattle.branch_codegen.specs.class_rules.Scope.{Typing, Local, Locals, kind_of}
-use Rattle.branch_codegen.specs.class_rules.Expressions.{then_checked, is_int, index_is_int, element_kind_of, variable_type, occurs, type_of}
+use Rattle.branch_codegen.specs.class_rules.Expressions.{then_checked, is_int, index_is_int, element_kind_of}
+use Rattle.branch_codegen.specs.class_rules.Expressions.{variable_type, occurs, type_of}
 use Rattle.branch_codegen.specs.class_rules.Expressions.{place_type, first_token}
-use Rattle.branch_codegen.specs.class_rules.Statements.{Verdict, receiver_kind, place_class, verdict_passed, required, in_turn, each_passes}
-use Rattle.branch_codegen.specs.class_rules.Statements.{each_passes_after, same_kind, in_either_index, swap_rules, argument_known}
-use Rattle.branch_codegen.specs.class_rules.Statements.{argument_new, argument_fits, arguments_fit, slot_rules, call_rules}
+use Rattle.branch_codegen.specs.class_rules.Statements.{Verdict, receiver_kind, place_class, verdict_passed, required}
+use Rattle.branch_codegen.specs.class_rules.Statements.{in_turn, each_passes}
+use Rattle.branch_codegen.specs.class_rules.Statements.{each_passes_after, same_kind, in_either_index, swap_rules}
+use Rattle.branch_codegen.specs.class_rules.Statements.{argument_known}
+use Rattle.branch_codegen.specs.class_rules.Statements.{argument_new, argument_fits, arguments_fit, slot_rules}
+use Rattle.branch_codegen.specs.class_rules.Statements.{call_rules}
 use Rattle.branch_codegen.specs.class_rules.Statements.{receiver_class}
 use Rattle.branch_codegen.proofs.class_rules_laws.FirstPlaces.{bytes_turned}
-use Rattle.branch_codegen.proofs.class_rules_laws.PassedRules.{both_passed, in_turn_passes, required_passes, handed_on, hands_on}
+use Rattle.branch_codegen.proofs.class_rules_laws.PassedRules.{both_passed, in_turn_passes, required_passes, handed_on}
+use Rattle.branch_codegen.proofs.class_rules_laws.PassedRules.{hands_on}
 use Rattle.branch_codegen.proofs.class_rules_laws.PassedRules.{same_as_itself}
 use Rattle.branch_codegen.specs.roopl_semantics.Execution.{element_name}
 use Rattle.branch_codegen.specs.meaning_sound.Plain.{IsNamed, HasNames, AreNamed}
@@ -81,7 +87,8 @@ module _ (typing : Typing) (locals : Locals) (at : ℕ) where
       (known_under k args n.1 both.1)
 
   fit_under : (k : Kind) (params : List Var) (args : List Ident) → AreNamed args
-      → arguments_fit typing locals params args ≡ verdict_passed → arguments_fit typing (inner k) params args ≡ verdict_passed
+      → arguments_fit typing locals params args ≡ verdict_passed
+      → arguments_fit typing (inner k) params args ≡ verdict_passed
   fit_under k [] args n h = refl
   fit_under k (p ∷ params) [] n h = refl
   fit_under k (p ∷ params) (a ∷ args) n h =
@@ -122,12 +129,15 @@ module _ (typing : Typing) (locals : Locals) (at : ℕ) where
   pub record ElementRules (name : Ident) (index : Expression) (method : Ident) (args : List Ident) : Type 0 where
     pub class : ℕ
     pub array : variable_type typing locals name ≡ Ok (kind.ClassArray class)
-    pub swapped : swap_rules typing (inner (kind.Class class)) at (Whole (element_name at)) (Item name index) ≡ verdict_passed
-    pub called : call_rules typing (inner (kind.Class class)) at (Some (Whole (element_name at))) method args ≡ verdict_passed
+    pub swapped : swap_rules typing (inner (kind.Class class)) at (Whole (element_name at)) (Item name index)
+        ≡ verdict_passed
+    pub called : call_rules typing (inner (kind.Class class)) at (Some (Whole (element_name at))) method args
+        ≡ verdict_passed
 
   pub element_rules : (name : Ident) (index : Expression) (method : Ident) (args : List Ident) → IsNamed name
       → HasNames index → AreNamed args
-      → call_rules typing locals at (Some (Item name index)) method args ≡ verdict_passed → ElementRules name index method args
+      → call_rules typing locals at (Some (Item name index)) method args ≡ verdict_passed
+      → ElementRules name index method args
   element_rules name index method args named indexes all h =
       let c = handed_on (receiver_class typing locals (Some (Item name index))) _ tt h in
       let p = handed_on (place_type typing locals (Item name index)) _ c.value c.is in

@@ -24,7 +24,8 @@ use Rattle.statement_codegen.specs.Codes.{with_variable}
 use Rattle.statement_codegen.specs.Laws.{ConstructLaw}
 use Rattle.statement_codegen.specs.Pieces.{BlockPiece}
 use Rattle.statement_codegen.proofs.Pieces.{tokens_are, place_tokens_are, plain_inner, construct_inner}
-use Rattle.statement_codegen.proofs.ObjectStands.{copy_stands, uncopy_stands, few_creation_words, new_stands, delete_stands}
+use Rattle.statement_codegen.proofs.ObjectStands.{copy_stands, uncopy_stands, few_creation_words, new_stands}
+use Rattle.statement_codegen.proofs.ObjectStands.{delete_stands}
 use Rattle.statement_codegen.proofs.ObjectStands.{constructed_new}
 use Rattle.branch_codegen.specs.code_conventions.declared.memory.TheConstants.{EXPRESSION_WORDS}
 
@@ -39,7 +40,8 @@ copy_room v x at kind source target is h =
     omega (arith, n, a, b)
 
 pub uncopy_room : (v : Visible) (x : Statement) (at : ℕ) (kind : VarType) (source target : Lvalue)
-    → x ≡ Uncopy at kind source target → StatementStands v x → place_words source + place_words target ≤ EXPRESSION_WORDS
+    → x ≡ Uncopy at kind source target → StatementStands v x
+    → place_words source + place_words target ≤ EXPRESSION_WORDS
 uncopy_room v x at kind source target is h =
     let n : index_nodes source + index_nodes target ≤ 64 = (subst (StatementStands v) is h).allowed.few_nodes in
     let a = place_words_most source in
@@ -148,9 +150,11 @@ construct_made v w u x at class name body end var making inside o (Ok p) is h va
     let here : w ≡ with_variable v (record { kind = type.Class class; name = name }) = w_is
     ∙ ap (with_variable v) var_is in
     let inner = with_variable v (record { kind = type.Class class; name = name }) in
-    let law : NewLaw (source_of inner.program) (spot_of (known_in inner)) (free_words_of (known_in inner)) (Object class)
+    let law : NewLaw (source_of inner.program) (spot_of (known_in inner)) (free_words_of (known_in inner))
+    (Object class)
     (Whole name) making.cells =
-    subst (λ (z : Visible). NewLaw (source_of z.program) (spot_of (known_in z)) (free_words_of (known_in z)) (Object class)
+    subst (λ (z : Visible). NewLaw (source_of z.program) (spot_of (known_in z)) (free_words_of (known_in z))
+    (Object class)
     (Whole name) making.cells) here new in
     let one : ConstructLaw v at (record { kind = type.Class class; name = name }) making.cells inside.cells p.cells =
     subst (λ z. ConstructLaw z at (record { kind = type.Class class; name = name }) making.cells inside.cells p.cells)

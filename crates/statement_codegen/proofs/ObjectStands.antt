@@ -27,7 +27,8 @@ use Rattle.statement_codegen.specs.Codes.{scope_of, with_variable, IsStatementCo
 use Rattle.statement_codegen.proofs.Stands.{laid_out, names_same, room_for}
 
 pub copy_stands : (v : Visible) (at : ℕ) (kind : VarType) (source target : Lvalue) (all : List Symbol)
-    → CopyLaw (spot_of (known_in v)) (free_words_of (known_in v)) source target all → IsAllowed v (Copy at kind source target)
+    → CopyLaw (spot_of (known_in v)) (free_words_of (known_in v)) source target all
+    → IsAllowed v (Copy at kind source target)
     → IsStatementCode v (Copy at kind source target) all
 copy_stands v at kind source target all made fine = record {
   law = λ place routine linked same.
@@ -46,7 +47,8 @@ copy_stands v at kind source target all made fine = record {
       copies_are_told place (laid_out place routine linked) (scope_of v) at kind source target
       (subst (λ program. IsPassed program (scope_of v) (Copy at kind source target)
       (place_words source + place_words target)) (sym same) ok) all
-      (subst (λ (k : Known). CopyLaw (spot_of k) (free_words_of k) source target all) (sym (names_same v place same)) made);
+      (subst (λ (k : Known). CopyLaw (spot_of k) (free_words_of k) source target all) (sym (names_same v place same))
+      made);
 }
 
 pub uncopy_stands : (v : Visible) (at : ℕ) (kind : VarType) (source target : Lvalue) (all : List Symbol)
@@ -69,7 +71,8 @@ uncopy_stands v at kind source target all made fine = record {
       uncopies_are_told place (laid_out place routine linked) (scope_of v) at kind source target
       (subst (λ program. IsPassed program (scope_of v) (Uncopy at kind source target)
       (place_words source + place_words target)) (sym same) ok) all
-      (subst (λ (k : Known). CopyLaw (spot_of k) (free_words_of k) source target all) (sym (names_same v place same)) made);
+      (subst (λ (k : Known). CopyLaw (spot_of k) (free_words_of k) source target all) (sym (names_same v place same))
+      made);
 }
 
 -- ---- objects and arrays
@@ -101,7 +104,8 @@ new_stands v at made target all law fine = record {
       all
       (subst (λ (k : Known). NewLaw place.setting.program (spot_of k) (free_words_of k) made target all)
       (sym (names_same v place same))
-      (subst (λ program. NewLaw program (spot_of (known_in v)) (free_words_of (known_in v)) made target all) (sym same) law));
+      (subst (λ program. NewLaw program (spot_of (known_in v)) (free_words_of (known_in v)) made target all) (sym same)
+      law));
 }
 
 pub delete_stands : (v : Visible) (at : ℕ) (made : Creation) (target : Lvalue) (all : List Symbol)
@@ -122,7 +126,8 @@ delete_stands v at made target all law fine = record {
       ok) all
       (subst (λ (k : Known). NewLaw place.setting.program (spot_of k) (free_words_of k) made target all)
       (sym (names_same v place same))
-      (subst (λ program. NewLaw program (spot_of (known_in v)) (free_words_of (known_in v)) made target all) (sym same) law));
+      (subst (λ program. NewLaw program (spot_of (known_in v)) (free_words_of (known_in v)) made target all) (sym same)
+      law));
 }
 
 -- the new that begins a `construct` is allowed if its variable is visible

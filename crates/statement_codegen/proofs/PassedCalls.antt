@@ -16,8 +16,10 @@ use Rattle.branch_codegen.specs.class_rules.Refusal.{unknown_name, type_differs,
 use Rattle.branch_codegen.specs.class_rules.Scope.{Typing, Locals, kind_of, kind_in}
 use Rattle.branch_codegen.specs.class_rules.Inheritance.{kind_of_var}
 use Rattle.branch_codegen.specs.class_rules.Expressions.{then_checked, variable_type}
-use Rattle.branch_codegen.specs.class_rules.Statements.{verdict_passed, required, each_passes, each_passes_after, argument_known, argument_new}
-use Rattle.branch_codegen.specs.class_rules.Statements.{argument_fits, arguments_fit, receiver_kind, place_class, receiver_class}
+use Rattle.branch_codegen.specs.class_rules.Statements.{verdict_passed, required, each_passes, each_passes_after}
+use Rattle.branch_codegen.specs.class_rules.Statements.{argument_known, argument_new}
+use Rattle.branch_codegen.specs.class_rules.Statements.{argument_fits, arguments_fit, receiver_kind, place_class}
+use Rattle.branch_codegen.specs.class_rules.Statements.{receiver_class}
 use Rattle.branch_codegen.specs.class_rules.Statements.{plain_receiver, slot_rules, call_rules}
 use Rattle.branch_codegen.proofs.class_rules_laws.PassedRules.{both_passed, held, handed_on, kinds_same}
 use Rattle.branch_codegen.proofs.class_rules_laws.FoundMethods.{slot_inside}
@@ -49,7 +51,8 @@ module _ (program : Source) (s : Scope) where
   shape = shape_of program s
 
   all_typed : (own : Bool) (at : ℕ) (params : List Var) (args : List Ident)
-      → each_passes (argument_known typing shape own at) args ≡ verdict_passed → arguments_fit typing shape params args ≡ verdict_passed
+      → each_passes (argument_known typing shape own at) args ≡ verdict_passed
+      → arguments_fit typing shape params args ≡ verdict_passed
       → length args ≡ length params → AllTyped program s args (map (kind_of_var program) params)
   all_typed own at [] [] h f l = tt
   all_typed own at [] (a ∷ args) h f l = absurd (omega arith)

@@ -130,7 +130,8 @@ module _ (v : Visible) where
   -- an object for a block, over the code of `new`, which has at most 432 cells
   pub construct_inner : (at : ℕ) (class name : Ident) (body : Statements) (end : Ident) (making : List Symbol)
       (inside p : Code) → IsAllowed v (Construct at class name body end)
-      → ConstructLaw v at (record { kind = type.Class class; name = name }) making inside.cells p.cells → HoldsCode inside p
+      → ConstructLaw v at (record { kind = type.Class class; name = name }) making inside.cells p.cells
+      → HoldsCode inside p
       → length p.cells ≤ 2 * length making + length inside.cells + 128 → length making ≤ 432
       → IsStatementCode (with_variable v (record { kind = type.Class class; name = name }))
       (New at (Object class) (Whole name)) making

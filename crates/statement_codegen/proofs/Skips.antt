@@ -29,7 +29,8 @@ nothing_done false object frame cells = refl
 nothing_done true object frame cells = refl
 
 skip_told : (w : World) (n : ℕ) (d : Bool) (at : ℕ) (st : State)
-    → run_result (one w.setting n (turned_statement d (Skip at)) st) ≡ Rattle.branch_codegen.specs.paired_code.Does.Fine st 1
+    → run_result (one w.setting n (turned_statement d (Skip at)) st)
+    ≡ Rattle.branch_codegen.specs.paired_code.Does.Fine st 1
 skip_told w n false at st = refl
 skip_told w n true at st = refl
 
@@ -41,7 +42,8 @@ skip_row place s at p law n owes d u = record {
       let kept : outcome_of d still m ≡ Done m 1 = subst (λ z. outcome_of d still z ≡ Done z 1)
       (sym (as_known m _ h.regs_are)) (nothing_done d (w.object_of u) (w.frame_of u) m.cells) in
       will_of place.im p d m _ _ (law place.im d m)
-      (subst (Meets (HasOpenFrame w s u) w.rates (suc n) 0 (run_result (one w.setting n (turned_statement d (Skip at)) st))) (sym kept)
+      (subst (Meets (HasOpenFrame w s u) w.rates (suc n) 0
+      (run_result (one w.setting n (turned_statement d (Skip at)) st))) (sym kept)
       (subst (λ t. Meets (HasOpenFrame w s u) w.rates (suc n) 0 t (Done m 1)) (sym (skip_told w n d at st))
       (fine h (some_counts _) (omega arith))));
 }

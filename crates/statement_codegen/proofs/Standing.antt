@@ -11,7 +11,8 @@ use Rattle.rpp_tree.specs.Places.{statement_place}
 use Rattle.rpp_tree.specs.Views.{source_of}
 use Rattle.rpp_tree.specs.Parts.{expression_places, var_places, statement_places, block_places}
 use Rattle.branch_codegen.specs.class_rules.Scope.{Typing, Locals}
-use Rattle.branch_codegen.specs.class_rules.Statements.{test_rules, local_rules, construct_rules, with_local, with_object}
+use Rattle.branch_codegen.specs.class_rules.Statements.{test_rules, local_rules, construct_rules, with_local}
+use Rattle.branch_codegen.specs.class_rules.Statements.{with_object}
 use Rattle.branch_codegen.specs.class_rules.Statements.{check_statement, check_statements}
 use Rattle.branch_codegen.proofs.class_rules_laws.PassedRules.{both_passed}
 use Rattle.refine_form.specs.Stands.{shape_of}
@@ -33,11 +34,13 @@ own_place (Update at op target value) all = all 0 0 (omega arith)
 own_place _ all = all 0 0 (omega arith)
 
 -- the places of two blocks between others
-first_of_two : (before one two after : List ℕ) → All IsSourceOffset (before ++ one ++ two ++ after) → All IsSourceOffset one
+first_of_two : (before one two after : List ℕ) → All IsSourceOffset (before ++ one ++ two ++ after)
+    → All IsSourceOffset one
 first_of_two before one two after all = right IsSourceOffset before one
     (left IsSourceOffset (before ++ one) two (left IsSourceOffset (before ++ one ++ two) after all))
 
-second_of_two : (before one two after : List ℕ) → All IsSourceOffset (before ++ one ++ two ++ after) → All IsSourceOffset two
+second_of_two : (before one two after : List ℕ) → All IsSourceOffset (before ++ one ++ two ++ after)
+    → All IsSourceOffset two
 second_of_two before one two after all = right IsSourceOffset (before ++ one) two
     (left IsSourceOffset (before ++ one ++ two) after all)
 

@@ -20,10 +20,12 @@ use Rattle.branch_codegen.specs.class_rules.Table.{table_of, class_of}
 use Rattle.branch_codegen.specs.class_rules.Refusal.{redeclared, type_differs, local_in_own_expression}
 use Rattle.branch_codegen.specs.class_rules.Scope.{Typing, Locals, local_kind, kind_of}
 use Rattle.branch_codegen.specs.class_rules.Expressions.{is_int, type_of, occurs, first_token}
-use Rattle.branch_codegen.specs.class_rules.Statements.{verdict_passed, required, in_turn, test_rules, type_known, is_nil_word, local_rules}
+use Rattle.branch_codegen.specs.class_rules.Statements.{verdict_passed, required, in_turn, test_rules, type_known}
+use Rattle.branch_codegen.specs.class_rules.Statements.{is_nil_word, local_rules}
 use Rattle.branch_codegen.specs.class_rules.Statements.{with_local, check_statements}
 use Rattle.branch_codegen.proofs.class_rules_laws.FirstPlaces.{same_name}
-use Rattle.branch_codegen.proofs.class_rules_laws.PassedRules.{both_passed, held, handed_on, both_true, neither_true, int_kind}
+use Rattle.branch_codegen.proofs.class_rules_laws.PassedRules.{both_passed, held, handed_on, both_true, neither_true}
+use Rattle.branch_codegen.proofs.class_rules_laws.PassedRules.{int_kind}
 use Rattle.branch_codegen.specs.paired_code.declared.part.Symbol.{Symbol}
 use Rattle.branch_codegen.specs.meaning_sound.Plain.{HasWords}
 use Rattle.branch_codegen.proofs.meaning_sound_laws.Locals.{no_int_class, no_int_array}
@@ -92,7 +94,8 @@ update_stands v at op target value all made fine = record {
       updates_are_told place (laid_out place routine linked) (scope_of v) at op target value
       (subst (λ program. IsPassed program (scope_of v) (Update at op target value) (place_words target + words value))
       (sym same) ok) all
-      (subst (λ (k : Known). code.UpdateLaw (spot_of k) (free_words_of k) op target value all) (sym (names_same v place same))
+      (subst (λ (k : Known). code.UpdateLaw (spot_of k) (free_words_of k) op target value all)
+      (sym (names_same v place same))
       made);
 }
 
@@ -115,12 +118,14 @@ swap_stands v at left right all made fine = record {
       swaps_are_told place (laid_out place routine linked) (scope_of v) at left right
       (subst (λ program. IsPassed program (scope_of v) (Swap at left right) (place_words left + place_words right))
       (sym same) ok) all
-      (subst (λ (k : Known). code.SwapLaw (spot_of k) (free_words_of k) left right all) (sym (names_same v place same)) made);
+      (subst (λ (k : Known). code.SwapLaw (spot_of k) (free_words_of k) left right all) (sym (names_same v place same))
+      made);
 }
 
 -- ---- conditionals and loops
 
-both_ints : (typing : Typing) (shape : Locals) (first last : Expression) → test_rules typing shape first last ≡ verdict_passed
+both_ints : (typing : Typing) (shape : Locals) (first last : Expression)
+    → test_rules typing shape first last ≡ verdict_passed
     → (type_of typing shape first ≡ Ok kind.Int) × (type_of typing shape last ≡ Ok kind.Int)
 both_ints typing shape first last h =
     let f = handed_on (type_of typing shape first) _ tt h in

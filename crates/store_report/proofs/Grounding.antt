@@ -48,7 +48,8 @@ module _ (u : Setup) (class : ℕ) (st : State) (s : Sound u.setting main_alone 
     reference_of : (n : ℕ) → IsGood st.store n → IsReference u main_alone [] class st t s.main_unheld n
     reference_of n good = record { live = good.live; no_main = good.no_main }
 
-    other : (n : ℕ) → IsGood st.store n → object_address u s.placed.at.blocks n ≡ setup_base u + block_of s.placed.at.blocks n
+    other : (n : ℕ) → IsGood st.store n → object_address u s.placed.at.blocks n
+        ≡ setup_base u + block_of s.placed.at.blocks n
     other n good = address_other u main_alone [] class st t g n good.no_main
 
     held_is : (m : ℕ) → 0 < holders m st.store → IsGood st.store m

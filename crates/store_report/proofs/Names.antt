@@ -73,7 +73,8 @@ ascii_along program (class ∷ below) all =
     (ascii_at program.classes class all) (ascii_along program below all)
 
 pub ascii_main_fields : (program : Source) → IsAccepted program → All HasAsciiName (main_fields program)
-ascii_main_fields program accepted = ascii_along program (class_line program (main_of program).class) accepted.limits.names
+ascii_main_fields program accepted = ascii_along program (class_line program (main_of program).class)
+    accepted.limits.names
 
 pub ascii_class_fields : (program : Source) (class : ℕ) → IsAccepted program
     → All HasAsciiName (class_fields program class)

@@ -1,5 +1,6 @@
 -- The first limit that is passed, counted over the tokens, is the one that the reader finds.
-use Rattle.std.specs.Prelude.{◌≡◌, ℕ, Bool, true, false, IsTrue, List, [], ◌∷◌, ◌++◌, length, drop, nat_lt, cond, Option}
+use Rattle.std.specs.Prelude.{◌≡◌, ℕ, Bool, true, false, IsTrue, List, [], ◌∷◌, ◌++◌, length, drop, nat_lt, cond}
+use Rattle.std.specs.Prelude.{Option}
 use Rattle.std.specs.Prelude.{Some, None, is_some, Ok, refl}
 use Rattle.std.specs.Option.{option_or}
 use Rattle.std.proofs.Common.{subst, sym, ap, ◌∙◌, inl, inr, append-nil}
@@ -64,7 +65,8 @@ record After (front : List Token) (n : ℕ) (s : List Part) (vs : List ParsedVal
       → Agrees (passes (front ++ rest) n s vs) (option_or (counts.count_passes front n (outline s)) x)
   behind : (rest : List Token) (q : ParsedValue) → Gen stack values rest q → Gen s vs (front ++ rest) q
 
-fits_of : (mark : Mark) (n : ℕ) (s : List Part) (vs : List ParsedValue) (to : counts.CountStep) → Follows (Next mark n s vs) to
+fits_of : (mark : Mark) (n : ℕ) (s : List Part) (vs : List ParsedValue) (to : counts.CountStep)
+    → Follows (Next mark n s vs) to
     → Fits n s
 fits_of mark n s vs (counts.To which m u) h = h.3
 
@@ -87,7 +89,8 @@ one_more at b mark n s vs (counts.To full m u) next found x h e =
     let Q : List counts.CountPart → Type 0 = λ v. Agrees found (option_or (next n v) x) in
     by_limit at (passed mark b) full m u next found x (h.0 b) (subst P h.1 (subst Q h.2 e))
 
-after_step : (end : ℕ) (t : Token) (ts more : List Token) (n : ℕ) (s : List Part) (vs : List ParsedValue) (q : ParsedValue)
+after_step : (end : ℕ) (t : Token) (ts more : List Token) (n : ℕ) (s : List Part) (vs : List ParsedValue)
+    (q : ParsedValue)
     (step : Step) → walk s n vs t ≡ step → Fits n s
     → ((m : ℕ) (u : List Part) (ws : List ParsedValue) → Fits m u → scan false end (ts ++ more) m u ws ≡ Ok q
     → After ts m u ws)
@@ -276,7 +279,8 @@ further at b mark n s vs (counts.To true m u) next e h none g =
     let one = h.0 b in
     absurd (cc)
 
-found_mark : (t : Token) (ts : List Token) (n : ℕ) (s : List Part) (vs : List ParsedValue) (e : ParseError) (mark : Mark)
+found_mark : (t : Token) (ts : List Token) (n : ℕ) (s : List Part) (vs : List ParsedValue) (e : ParseError)
+    (mark : Mark)
     (n' : ℕ) (s' : List Part) (vs' : List ParsedValue) (which : Option LimitKind) → walk s n vs t ≡ Next mark n' s' vs'
     → Follows (Next mark n' s' vs') (counts.count_walk (outline s) n t.kind) → passed mark (bracket ts) ≡ which
     → (passes ts n' s' vs' ≡ Some e → Found ts n' s' vs' e)
@@ -304,11 +308,13 @@ found_mark t ts n s vs e mark n' s' vs' None w follows m below h =
       rest = r.rest;
       all = ap (λ l. t ∷ l) r.all;
       alive = (a.0, a.1, walk_sound s n vs t (r.front ++ a.0) a.1 (subst P (sym w) a.2));
-      full = further t.at (bracket ts) mark n' s' vs' (counts.count_walk (outline s) n t.kind) (counts.count_passes r.front) e
+      full = further t.at (bracket ts) mark n' s' vs' (counts.count_walk (outline s) n t.kind)
+          (counts.count_passes r.front) e
           follows m r.full;
     }
 
-found_step : (t : Token) (ts : List Token) (n : ℕ) (s : List Part) (vs : List ParsedValue) (e : ParseError) (step : Step)
+found_step : (t : Token) (ts : List Token) (n : ℕ) (s : List Part) (vs : List ParsedValue) (e : ParseError)
+    (step : Step)
     → walk s n vs t ≡ step → Fits n s
     → ((m : ℕ) (u : List Part) (ws : List ParsedValue) → Fits m u → passes ts m u ws ≡ Some e → Found ts m u ws e)
     → passing t.at (bracket ts) (passes ts) step ≡ Some e → Found (t ∷ ts) n s vs e

@@ -1,12 +1,14 @@
 -- The limits that tokens pass are those that the reader finds, as far as the tokens are those of a
 -- program: what is to come for the counts is the outline of the reader's stack.
-use Rattle.std.specs.Prelude.{◌≡◌, ⊤, ℕ, suc, ◌+◌, ◌≤◌, ◌<◌, Bool, true, false, not, ◌||◌, List, [], ◌∷◌, drop, nat_lt, cond}
+use Rattle.std.specs.Prelude.{◌≡◌, ⊤, ℕ, suc, ◌+◌, ◌≤◌, ◌<◌, Bool, true, false, not, ◌||◌, List, [], ◌∷◌, drop, nat_lt}
+use Rattle.std.specs.Prelude.{cond}
 use Rattle.std.specs.Prelude.{Option, Some, None, is_some, refl}
 use Rattle.std.proofs.Common.{zero, subst, sym, ap, arith, ltb-true, lt-ltb}
 use Rattle.roopl_parser.specs.rpp_tree.declared.tree.BinOp.{BinOp}
 use Rattle.roopl_parser.specs.rpp_tree.declared.limits.LimitKind.{LimitKind}
 use Rattle.roopl_parser.specs.rpp_tree.declared.limits.LimitKind.TheVariants as limit
-use Rattle.roopl_parser.specs.rpp_tree.declared.limits.TheConstants.{MOST_NODES, MOST_INDEX_DEPTH, MOST_PARENS, MOST_NESTING}
+use Rattle.roopl_parser.specs.rpp_tree.declared.limits.TheConstants.{MOST_NODES, MOST_INDEX_DEPTH, MOST_PARENS}
+use Rattle.roopl_parser.specs.rpp_tree.declared.limits.TheConstants.{MOST_NESTING}
 use Rattle.roopl_parser.specs.rpp_tree.declared.limits.TheConstants.{MOST_LOCALS, MOST_PARAMETERS, MOST_CLASSES}
 use Rattle.roopl_parser.specs.roopl_lexer.declared.token.Token.{Token}
 use Rattle.roopl_parser.specs.roopl_lexer.declared.token.TokenKind.{TokenKind}
@@ -175,7 +177,8 @@ operand_follows k p i s n vs at (token.Sign sign.LeftParen) a h = (
 )
 operand_follows k p i s n vs at kind a h = tt
 
-more_follows : (k p i : ℕ) (s : List Part) (n : ℕ) (vs : List ParsedValue) (at : ℕ) (other : Step) (to : counts.CountStep)
+more_follows : (k p i : ℕ) (s : List Part) (n : ℕ) (vs : List ParsedValue) (at : ℕ) (other : Step)
+    (to : counts.CountStep)
     (o : Option BinOp) → i ≤ n + 1 → Fits n s → Follows other to
     → Follows (more k p i s n vs at other o) (counts.count_more k p (outline s) n to o)
 more_follows k p i s n vs at other to None a h below = below
@@ -186,7 +189,8 @@ more_follows k p i s n vs at other to (Some op) a h below = (
   (omega (arith, a), (omega (arith, a), later n (suc n) s (omega arith) h)),
 )
 
-index_follows : (p i : ℕ) (s : List Part) (n : ℕ) (vs : List ParsedValue) (other : Step) (to : counts.CountStep) (kind : TokenKind)
+index_follows : (p i : ℕ) (s : List Part) (n : ℕ) (vs : List ParsedValue) (other : Step) (to : counts.CountStep)
+    (kind : TokenKind)
     → i ≤ n → Fits n s → Follows other to
     → Follows (index p i s n vs other kind) (counts.count_index p (outline s) n to kind)
 index_follows p i s n vs other to (token.Sign sign.LeftBracket) a h below =
@@ -204,7 +208,8 @@ type_follows s n vs at (token.Name x) h = (λ b. refl, refl, refl, h)
 type_follows s n vs at (token.Word word.Int) h = (λ b. refl, refl, refl, h)
 type_follows s n vs at kind h = tt
 
-brackets_follows : (s : List Part) (n : ℕ) (vs : List ParsedValue) (other : Step) (to : counts.CountStep) (kind : TokenKind)
+brackets_follows : (s : List Part) (n : ℕ) (vs : List ParsedValue) (other : Step) (to : counts.CountStep)
+    (kind : TokenKind)
     → Fits n s → Follows other to → Follows (brackets s n vs other kind) (counts.count_brackets (outline s) n to kind)
 brackets_follows s n vs other to (token.Sign sign.LeftBracket) h below = (λ b. refl, refl, refl, h)
 brackets_follows s n vs other to kind h below = below
@@ -215,7 +220,8 @@ made_follows s n vs at (token.Name x) h = (λ b. refl, refl, refl, h)
 made_follows s n vs at (token.Word word.Int) h = (λ b. refl, refl, refl, (refl, (omega arith, h)))
 made_follows s n vs at kind h = tt
 
-sized_follows : (s : List Part) (n : ℕ) (vs : List ParsedValue) (other : Step) (to : counts.CountStep) (kind : TokenKind)
+sized_follows : (s : List Part) (n : ℕ) (vs : List ParsedValue) (other : Step) (to : counts.CountStep)
+    (kind : TokenKind)
     → Fits n s → Follows other to → Follows (sized s n vs other kind) (counts.count_index 0 (outline s) n to kind)
 sized_follows s n vs other to (token.Sign sign.LeftBracket) h below = (λ b. refl, refl, refl, (omega arith, h))
 sized_follows s n vs other to kind h below = below
@@ -274,7 +280,8 @@ statement_follows d l s vs at other to (token.Word word.Skip) h below =
 statement_follows d l s vs at other to kind h below = below
 
 assigned_follows : (at : ℕ) (s : List Part) (n : ℕ) (vs : List ParsedValue) (kind : TokenKind) → Fits n s
-    → Follows (assigned at s n vs (update_operator kind) (swapped at s n vs kind)) (counts.count_assigned (outline s) n kind)
+    → Follows (assigned at s n vs (update_operator kind) (swapped at s n vs kind))
+    (counts.count_assigned (outline s) n kind)
 assigned_follows at s n vs (token.Sign sign.AddTo) h = (λ b. refl, refl, refl, (omega arith, h))
 assigned_follows at s n vs (token.Sign sign.SubFrom) h = (λ b. refl, refl, refl, (omega arith, h))
 assigned_follows at s n vs (token.Sign sign.XorInto) h = (λ b. refl, refl, refl, (omega arith, h))
@@ -385,7 +392,8 @@ walk_follows (ASign w ∷ s) n vs t h = token_follows (is_sign w t.kind) s n vs 
 walk_follows (AName ∷ s) n vs t h = name_follows s n vs t.at t.kind h
 walk_follows (Level k p i ∷ s) n vs t h = operand_follows k p i s n vs t.at t.kind h.0 h.1
 walk_follows (More k p i ∷ s) n vs t h =
-    more_follows k p i s n vs t.at (walk s n vs t) (counts.count_walk (outline s) n t.kind) (operator_at k t.kind) h.0 h.1
+    more_follows k p i s n vs t.at (walk s n vs t) (counts.count_walk (outline s) n t.kind) (operator_at k t.kind) h.0
+    h.1
     (walk_follows s n vs t h.1)
 walk_follows (Index p i ∷ s) n vs t h =
     index_follows p i s n vs (walk s n (build MakeWhole vs) t) (counts.count_walk (outline s) n t.kind) t.kind h.0 h.1
@@ -400,7 +408,8 @@ walk_follows (Sized ∷ s) n vs t h =
     (walk_follows s n (build MakeObject vs) t h)
 walk_follows (Single d l ∷ s) n vs t h = absurd h
 walk_follows (Block d l ∷ s) n vs t h =
-    statement_follows d l (Build MakeBlock ∷ s) (Many [] ∷ vs) t.at Wrong (counts.count_walk (outline s) n t.kind) t.kind h tt
+    statement_follows d l (Build MakeBlock ∷ s) (Many [] ∷ vs) t.at Wrong (counts.count_walk (outline s) n t.kind)
+    t.kind h tt
 walk_follows (Stmts d l ∷ s) n vs t h =
     statement_follows d l s vs t.at (walk s n vs t) (counts.count_walk (outline s) n t.kind) t.kind h
     (walk_follows s n vs t (later 0 n s (omega arith) h))

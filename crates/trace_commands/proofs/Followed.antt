@@ -14,7 +14,8 @@ use Rattle.trace_commands.specs.TracePlans.{FollowsScript}
 pub followed : (program : Program) (limits : Limits) (input : List FieldWord) (commands : List Command)
     (before after : Standing) (text shown : Text)
     → before ≡ record { program = program; limits = limits; input = input; position = 0 }
-    → CommandsLead before commands after text → shown ≡ text → FollowsScript commands (source_of program) limits input shown
+    → CommandsLead before commands after text → shown ≡ text
+    → FollowsScript commands (source_of program) limits input shown
 followed program limits input commands before after text shown first leads same = record {
   fuel = MOST_COST;
   last = after.position;

@@ -153,7 +153,8 @@ fields_are_int program =
     let own = fields_are_own (input_fields program) in
     λ k d h. int_field program _ (sym (same_test (input_fields program) _) ∙ own k d h)
 
-ascii_next : (own : InputField) (fields : List InputField) (b : Bool) → HasAsciiFieldName own → All HasAsciiFieldName fields
+ascii_next : (own : InputField) (fields : List InputField) (b : Bool) → HasAsciiFieldName own
+    → All HasAsciiFieldName fields
     → All HasAsciiFieldName (if b then own ∷ fields else fields)
 ascii_next own fields true first rest = All-cons HasAsciiFieldName own fields first rest
 ascii_next own fields false first rest = rest

@@ -13,7 +13,8 @@ returns-in-Stopped-clause-makes c =
 
 pub loop-made-preserved : goal.loop-made-preserved
 loop-made-preserved c =
-    let moves = subst (λ (answer : Moved). ProcessorMoves c.args.who answer c.loop-made.cluster c.step.new.self) c.in-Made.is
+    let moves = subst (λ (answer : Moved). ProcessorMoves c.args.who answer c.loop-made.cluster c.step.new.self)
+    c.in-Made.is
     c.in_ok-_serial.ensures.answer in
     let next = next_serial_after c.args.who c.in-Made._serial c.loop-made.cluster c.step.new.self moves in
     let so_far = c.loop-made.invariant.serial in

@@ -27,7 +27,8 @@ returns-clause-law c = if_ok_law (λ p. PlacesAroundLaw (spot_of (known_by c.arg
 pub returns-clause-size : goal.returns-clause-size
 returns-clause-size c = if_ok_law (λ p. length p.cells ≤ length c.args.middle.cells + 80 *
     (place_tokens (lvalue_of c.args.source.now) + place_tokens (lvalue_of c.args.target.now))) _
-    (unmarked (around (found_places_cells (spot_of (known_by c.args.names.now)) (free_words_of (known_by c.args.names.now))
+    (unmarked (around (found_places_cells (spot_of (known_by c.args.names.now))
+    (free_words_of (known_by c.args.names.now))
     (lvalue_of c.args.source.now) (lvalue_of c.args.target.now)) c.args.middle.cells)) (returns-clause-code c)
     (Bounds.places_around (spot_of (known_by c.args.names.now)) (free_words_of (known_by c.args.names.now))
     (lvalue_of c.args.source.now) (lvalue_of c.args.target.now) c.args.middle.cells)

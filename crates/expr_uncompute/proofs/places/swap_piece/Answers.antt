@@ -19,7 +19,8 @@ returns-clause-law c = if_ok_law (λ p. SwapLaw (spot_of (known_by c.args.names.
     (free_words_of (known_by c.args.names.now)) (lvalue_of c.args.left.now) (lvalue_of c.args.right.now) p.cells) _
     (unmarked (swap_cells (spot_of (known_by c.args.names.now)) (free_words_of (known_by c.args.names.now))
     (lvalue_of c.args.left.now) (lvalue_of c.args.right.now))) (returns-clause-code c)
-    (swap_law (spot_of (known_by c.args.names.now)) (free_words_of (known_by c.args.names.now)) (lvalue_of c.args.left.now)
+    (swap_law (spot_of (known_by c.args.names.now)) (free_words_of (known_by c.args.names.now))
+    (lvalue_of c.args.left.now)
     (lvalue_of c.args.right.now))
 
 pub returns-clause-size : goal.returns-clause-size

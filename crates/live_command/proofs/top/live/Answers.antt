@@ -18,9 +18,11 @@ returns-in-Ok-None-clause-session g c = lives_none _ _ _ _ _ _
     c.report.ensures)
 
 pub returns-in-Ok-Some-Source-clause-session : goal.returns-in-Ok-Some-Source-clause-session
-returns-in-Ok-Some-Source-clause-session g c = lives_some _ (OfSource (session_begun c.in-Ok-Some-Source.beginning)) _ _ _ _ _ _
+returns-in-Ok-Some-Source-clause-session g c = lives_some _ (OfSource (session_begun c.in-Ok-Some-Source.beginning)) _ _
+    _ _ _ _
     (ap (λ (o : Opening). Some (session_opened o)) (sym c.in-Ok-Some-Source.field-0-0-is)
-    ∙ sym (ap (option_map session_opened) c.in-Ok-Some-Source.field-0-is) ∙ c.in-Ok-Some-Source.ensures) c.begin.ensures.session
+    ∙ sym (ap (option_map session_opened) c.in-Ok-Some-Source.field-0-is) ∙ c.in-Ok-Some-Source.ensures)
+    c.begin.ensures.session
 
 pub returns-in-Ok-Some-Image-clause-session : goal.returns-in-Ok-Some-Image-clause-session
 returns-in-Ok-Some-Image-clause-session g c = lives_some _ (OfImage (loads c.in-Ok-Some-Image.loading)) _ _ _ _ _ _

@@ -25,7 +25,8 @@ loop-preserved g c =
       heard = g.A.Asker.events c.exchange.new.asker;
       out = record { bytes = g.K.Sink.written c.exchange.new.out; puts = g.K.Sink.puts c.exchange.new.out };
     }) c.loop.invariant
-    (subst (λ (r : Option ℕ). Serves (WithLimits ImageRepliesOf) (held_in c.loop.run) (held_in c.exchange.new.run) (record {
+    (subst (λ (r : Option ℕ). Serves (WithLimits ImageRepliesOf) (held_in c.loop.run) (held_in c.exchange.new.run)
+    (record {
       lines = g.A.Asker.lines c.loop.asker;
       heard = g.A.Asker.events c.loop.asker;
       out = record { bytes = g.K.Sink.written c.loop.out; puts = g.K.Sink.puts c.loop.out };
@@ -54,7 +55,8 @@ returns-in-Some g c =
       heard = g.A.Asker.events c.exchange.new.asker;
       out = record { bytes = g.K.Sink.written c.exchange.new.out; puts = g.K.Sink.puts c.exchange.new.out };
     }) c.in-Some.status c.loop.invariant
-    (subst (λ (r : Option ℕ). Serves (WithLimits ImageRepliesOf) (held_in c.loop.run) (held_in c.exchange.new.run) (record {
+    (subst (λ (r : Option ℕ). Serves (WithLimits ImageRepliesOf) (held_in c.loop.run) (held_in c.exchange.new.run)
+    (record {
       lines = g.A.Asker.lines c.loop.asker;
       heard = g.A.Asker.events c.loop.asker;
       out = record { bytes = g.K.Sink.written c.loop.out; puts = g.K.Sink.puts c.loop.out };

@@ -18,7 +18,8 @@ loop-preserved c =
     seeking_goes c.args.debugger.now c.loop.debugger c.make_turn.new.debugger (way_of c.args.ask.back) c.args.ask.goal
     arguments (kept_mark_of c.args.from.now) c.args.ask.most c.loop.counter c.loop-test.true c.loop.invariant
     (subst (λ (t : Turn). IsTurn c.loop.debugger (way_of c.args.ask.back)
-    (looks c.args.ask.goal arguments (kept_mark_of c.args.from.now) c.loop.debugger) c.make_turn.new.debugger t) c.in-On.is
+    (looks c.args.ask.goal arguments (kept_mark_of c.args.from.now) c.loop.debugger) c.make_turn.new.debugger t)
+    c.in-On.is
     c.make_turn.ensures.turned) c.make_turn.ensures.same
 
 pub returns-in-Over-clause-told : goal.returns-in-Over-clause-told
@@ -28,7 +29,8 @@ returns-in-Over-clause-told c =
     arguments (kept_mark_of c.args.from.now) c.args.ask.most c.loop.counter c.in-Over.moved c.loop-test.true
     c.loop.invariant
     (subst (λ (t : Turn). IsTurn c.loop.debugger (way_of c.args.ask.back)
-    (looks c.args.ask.goal arguments (kept_mark_of c.args.from.now) c.loop.debugger) c.make_turn.new.debugger t) c.in-Over.is
+    (looks c.args.ask.goal arguments (kept_mark_of c.args.from.now) c.loop.debugger) c.make_turn.new.debugger t)
+    c.in-Over.is
     c.make_turn.ensures.turned)
 
 pub returns-in-Over-clause-same : goal.returns-in-Over-clause-same

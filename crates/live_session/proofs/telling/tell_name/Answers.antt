@@ -13,6 +13,7 @@ returns-clause-told c =
     (variable_value_at (source_of c.args.debugger.now.program) (account_of c.args.debugger.now).trail
     (request_name c.args.line.now) c.args.debugger.now.position)
     (option_map (λ line. line.items) c.in_ok-value.value) c.in_ok-reply.reply.items c.tell_value.ensures.stays
-    (ap (λ (name : List ℕ). variable_value_at (source_of c.args.debugger.now.program) (account_of c.args.debugger.now).trail
+    (ap (λ (name : List ℕ). variable_value_at (source_of c.args.debugger.now.program)
+    (account_of c.args.debugger.now).trail
     name c.args.debugger.now.position) (sym c.name_in.ensures) ∙ c.in_ok-value.ensures.told)
     c.in_ok-reply.ensures

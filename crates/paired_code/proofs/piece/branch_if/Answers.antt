@@ -10,7 +10,8 @@ use Rattle.paired_code.proofs.piece.branch_if.Goals as goal
 
 pub put_spans-requires : goal.put_spans-requires
 put_spans-requires c = room_at _ _ _ _ _ refl c.deref.ensures.value (branch_room c.args.flag (2 ^ 63)
-    (symbols_in c.yes.inside.cells) (symbols_in c.no.inside.cells) (symbols_in c.in_ok-cells.cells) c.yes.inside.marks.items
+    (symbols_in c.yes.inside.cells) (symbols_in c.no.inside.cells) (symbols_in c.in_ok-cells.cells)
+    c.yes.inside.marks.items
     c.no.inside.marks.items c.in_ok-cells.ensures
     (omega (arith, c.len-size.ensures.few))
     c.yes.invariant.within c.no.invariant.within).0
@@ -18,7 +19,8 @@ put_spans-requires c = room_at _ _ _ _ _ refl c.deref.ensures.value (branch_room
 pub put_spans-requires-2 : goal.put_spans-requires-2
 put_spans-requires-2 c = room_at _ _ _ _ _ (ap (λ n. 5 + n) c.len-no_size.ensures.count)
     c.deref-2.ensures.value (branch_room c.args.flag (2 ^ 63)
-    (symbols_in c.yes.inside.cells) (symbols_in c.no.inside.cells) (symbols_in c.in_ok-cells.cells) c.yes.inside.marks.items
+    (symbols_in c.yes.inside.cells) (symbols_in c.no.inside.cells) (symbols_in c.in_ok-cells.cells)
+    c.yes.inside.marks.items
     c.no.inside.marks.items c.in_ok-cells.ensures
     (omega (arith, c.len-size.ensures.few))
     c.yes.invariant.within c.no.invariant.within).1

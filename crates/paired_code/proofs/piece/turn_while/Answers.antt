@@ -10,7 +10,8 @@ use Rattle.paired_code.proofs.piece.turn_while.Goals as goal
 
 pub put_spans-requires : goal.put_spans-requires
 put_spans-requires c = room_at _ _ _ _ _ refl c.deref.ensures.value (loop_room c.args.flag (2 ^ 63)
-    (symbols_in c.head.inside.cells) (symbols_in c.tail.inside.cells) (symbols_in c.in_ok-cells.cells) c.head.inside.marks.items
+    (symbols_in c.head.inside.cells) (symbols_in c.tail.inside.cells) (symbols_in c.in_ok-cells.cells)
+    c.head.inside.marks.items
     c.tail.inside.marks.items c.in_ok-cells.ensures
     (omega (arith, c.len-size.ensures.few))
     c.head.invariant.within c.tail.invariant.within).0
@@ -18,7 +19,8 @@ put_spans-requires c = room_at _ _ _ _ _ refl c.deref.ensures.value (loop_room c
 pub put_spans-requires-2 : goal.put_spans-requires-2
 put_spans-requires-2 c = room_at _ _ _ _ _ (ap (λ n. 5 + n) c.len-tail_size.ensures.count)
     c.deref-2.ensures.value (loop_room c.args.flag (2 ^ 63)
-    (symbols_in c.head.inside.cells) (symbols_in c.tail.inside.cells) (symbols_in c.in_ok-cells.cells) c.head.inside.marks.items
+    (symbols_in c.head.inside.cells) (symbols_in c.tail.inside.cells) (symbols_in c.in_ok-cells.cells)
+    c.head.inside.marks.items
     c.tail.inside.marks.items c.in_ok-cells.ensures
     (omega (arith, c.len-size.ensures.few))
     c.head.invariant.within c.tail.invariant.within).1

@@ -6,6 +6,7 @@ use Rattle.code_conventions.specs.pisa_isa.declared.image.TheConstants.{MOST_CEL
 
 abbrev pub invariant-loop-piece : goal.invariant-loop-piece
 invariant-loop-piece l = record {
-  done : l.found.items ++ link_positions l.top (bodies (drop l.piece-index l.routines)) ≡ link_positions l.first (bodies l.routines);
+  done : l.found.items ++ link_positions l.top (bodies (drop l.piece-index l.routines))
+      ≡ link_positions l.first (bodies l.routines);
   room : l.top + routines_size (bodies (drop l.piece-index l.routines)) ≤ MOST_CELLS;
 }

@@ -9,7 +9,8 @@ pub returns-in-None : goal.returns-in-None
 returns-in-None c =
     let labels : Labels = c.args.labels.now.entries in
     let name : List ℕ = c.args.name.now in
-    let none : label_address name labels ≡ None = rw c.in_ok-of.ensures at (sym c.in_ok-insert.ensures.old ∙ c.in-None.is) in
+    let none : label_address name labels ≡ None = rw c.in_ok-of.ensures at
+    (sym c.in_ok-insert.ensures.old ∙ c.in-None.is) in
     let added : c.insert.new.self.entries ≡ insert_entry bytes_eq labels name c.args.place =
     rw c.in_ok-of.ensures at c.in_ok-insert.ensures.entries in
     rw (none, added, not_placed labels name c.args.place none) refl

@@ -7,5 +7,6 @@ pub returns-clause-reads_back : goal.returns-clause-reads_back
 returns-clause-reads_back c =
     let p = c.args.machine.now in
     let text : c.add_cells.new.bytes.items ≡ state_bytes (loaded_memory p.state.regs p.state.cells) = search rules in
-    ap (state_at (length p.state.cells)) text ∙ state_again (length p.state.cells) (loaded_memory p.state.regs p.state.cells)
+    ap (state_at (length p.state.cells)) text ∙ state_again (length p.state.cells)
+    (loaded_memory p.state.regs p.state.cells)
     (omega arith) (saved_memory p c.core.ensures.machine)

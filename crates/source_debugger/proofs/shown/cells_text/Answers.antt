@@ -9,7 +9,8 @@ use Rattle.source_debugger.proofs.shown.cells_text.Goals as goal
 
 pub returns-clause-told : goal.returns-clause-told
 returns-clause-told c =
-    subst (λ (s : Stand). IfOk c.place_cells.result (λ text. cells_shown_at (source_of c.args.run.now.checked.now) c.args.from
+    subst (λ (s : Stand). IfOk c.place_cells.result (λ text. cells_shown_at (source_of c.args.run.now.checked.now)
+    c.args.from
     c.args.count s
     ≡ Some (string_bytes text)))
     (stand_as c.in_ok-place.place c.heap.result.now (heap_of c.place_at.new.course) c.heap.ensures.store

@@ -21,7 +21,8 @@ returns-in-Some c =
     rw c.in-Some.is (c.either.ensures
     ∙ ap (λ b. b || c.meets-later.result) (c.meets-sooner.ensures
     ∙ ap (λ v. meets_array program st v (expression_of c.in-Some.first.now)) c.variable-array.ensures)
-    ∙ ap (λ b. meets_array program st (variable_value program st c.args.name.now.text) (expression_of c.in-Some.first.now) ||
+    ∙ ap (λ b. meets_array program st (variable_value program st c.args.name.now.text)
+    (expression_of c.in-Some.first.now) ||
     b) (c.meets-later.ensures ∙ ap (λ v. meets_array program st v (expression_of c.args.second.now))
     c.variable-array.ensures)
     ∙ meets_both program st c.args.name.now (expression_of c.in-Some.first.now) (expression_of c.args.second.now))

@@ -12,7 +12,8 @@ pub returns-clause-law : goal.returns-clause-law
 returns-clause-law c =
     own_returns c.args.scope.now c.args.back c.args.method.now c.args.args.now c.slot_at-slot.result _ c.own_call.result
     (record {
-      slot_is = sym (c.slot_at-slot.ensures.value ∙ ap (λ (id : MethodId). method_slot_of (source_of c.args.scope.now.program)
+      slot_is = sym (c.slot_at-slot.ensures.value ∙ ap (λ (id : MethodId). method_slot_of
+          (source_of c.args.scope.now.program)
           id.class c.args.method.now) c.method-id.ensures);
       small = c.slot_at-slot.ensures.small;
       few = c.requires.few;

@@ -40,7 +40,8 @@ returns-in-Some-clause-undone c =
     c.in-Some.ensures.has_room c.in-Some.ensures.count in
     let base = ap (λ s. s.base) c.self.view_is in
     let at : c.self.inside.base + c.in-Some.block - c.args.self.now.base ≡ c.in-Some.block = omega arith in
-    ap (λ b. give_back (free_of c.take_block.new.lists.items) c.args.k b) at ∙ took.undone ∙ ap (λ s. s.free) c.self.view_is
+    ap (λ b. give_back (free_of c.take_block.new.lists.items) c.args.k b) at ∙ took.undone
+    ∙ ap (λ s. s.free) c.self.view_is
 
 pub returns-in-Some-clause-is_taken : goal.returns-in-Some-clause-is_taken
 returns-in-Some-clause-is_taken c =

@@ -7,7 +7,8 @@ use Rattle.source_execution.proofs.execution.Execution.is_over.Goals as goal
 
 pub returns-in-None : goal.returns-in-None
 returns-in-None c =
-    subst (λ (s : ExecutionStanding). (IsTrue true → IsOver (config_at s)) × (IsOver (config_at s) → IsTrue true)) c.self.view_is
+    subst (λ (s : ExecutionStanding). (IsTrue true → IsOver (config_at s)) × (IsOver (config_at s) → IsTrue true))
+    c.self.view_is
     (alone_is_over c.self.inside.run
     (sym c.self.inside.run.frames.ok.0 ∙ eqb-true _ 0 (sym c.is_empty.ensures ∙ c.if-not-is_empty.false))
     c.in-None.ensures.past)
