@@ -6,10 +6,9 @@ ghost use Rattle.paired_code.specs.Code.{unmarked};
 ghost use Rattle.bennett_wrap.specs.declared.wrapping.TheConstants.{MOST_COPIED};
 ghost use Rattle.bennett_wrap.specs.Copying.{find_cells, copy_one, copies, ending_cells, copied_cells, own_symbol, IsPlainCell};
 
-use code_conventions::cells::{add, addi, exch, sub, xor};
+use image_inverter::{Cell, END_CELL, Image, NoMemory, wrap_sub};
+use paired_code::cells::{add, addi, exch, sub, xor};
 use paired_code::{Piece, empty, link, plain, seq};
-use pisa_isa::{Cell, END_CELL, Image};
-use rpp_words::{NoMemory, wrap_sub};
 use std::alloc::Global;
 
 /// The address of a cell that is read.

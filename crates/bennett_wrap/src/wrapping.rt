@@ -7,10 +7,8 @@ ghost use Rattle.bennett_wrap.specs.Copying.{copied_cells};
 ghost use Rattle.bennett_wrap.specs.Wrapped.{left_by, entered_by, finish_of, inner, code_joined, wrapped_code, Wrapped};
 
 use crate::copying::copy_image;
-use code_conventions::cells::with_word;
-use image_inverter::flip;
-use pisa_isa::{Cell, Image, MOST_CELLS, Op};
-use rpp_words::NoMemory;
+use image_inverter::{Cell, Image, MOST_CELLS, NoMemory, Op, flip};
+use paired_code::cells::with_word;
 use std::alloc::Global;
 
 /// The most cells that are copied.

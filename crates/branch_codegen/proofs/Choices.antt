@@ -3,7 +3,7 @@ use Rattle.std.proofs.Common.{◌≡◌, ℕ, suc, ◌+◌, ◌-◌, ◌<◌, �
 use Rattle.std.proofs.Common.{subst, arith}
 use Rattle.std.specs.Prelude.{not, if◌then◌else◌}
 use Rattle.refine_expressions.specs.code_conventions.declared.registers.TheConstants.{FLAG, NOUGHT}
-use Rattle.rpp_tree.specs.Tree.{Expression, Statements, If}
+use Rattle.refine_expressions.specs.rpp_tree.Tree.{Expression, Statements, If}
 use Rattle.refine_expressions.specs.inverse_rules.Inverse.{inverse}
 use Rattle.refine_expressions.specs.pisa_isa.Machine.{Memory}
 use Rattle.refine_expressions.specs.paired_code.declared.part.Symbol.{Symbol}

@@ -1,6 +1,6 @@
 -- Tests between statements: the flag is set, and the frame stays open.
 use Rattle.std.proofs.Common.{◌≡◌, ℕ, Bool, List, [], sym, ap, subst}
-use Rattle.rpp_tree.specs.Tree.{Expression}
+use Rattle.refine_expressions.specs.rpp_tree.Tree.{Expression}
 use Rattle.refine_expressions.specs.pisa_isa.Machine.{Memory}
 use Rattle.refine_expressions.specs.paired_code.declared.part.Symbol.{Symbol}
 use Rattle.refine_expressions.specs.paired_code.Layout.{bool_xor}

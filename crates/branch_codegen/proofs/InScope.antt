@@ -1,7 +1,7 @@
 -- The laws of conditionals and loops in a scope, from those of their conditions and fragments.
 use Rattle.std.proofs.Common.{◌≡◌, List, sym, subst}
 use Rattle.std.specs.Prelude.{Result, Ok, Err, IfOk}
-use Rattle.rpp_tree.specs.Tree.{Expression}
+use Rattle.refine_expressions.specs.rpp_tree.Tree.{Expression}
 use Rattle.refine_expressions.specs.class_rules.declared.kind.Kind.TheVariants as kind
 use Rattle.refine_expressions.specs.paired_code.declared.part.Symbol.{Symbol}
 use Rattle.refine_expressions.specs.paired_code.Code.{Code}

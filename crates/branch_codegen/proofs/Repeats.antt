@@ -5,7 +5,7 @@ use Rattle.std.specs.Prelude.{not}
 use Rattle.std.proofs.Math.Nat.{mul-add, mul-le-mul_right}
 use Rattle.refine_expressions.specs.code_conventions.declared.faults.TheConstants.{LOOP}
 use Rattle.refine_expressions.specs.code_conventions.declared.registers.TheConstants.{FLAG, NOUGHT}
-use Rattle.rpp_tree.specs.Tree.{Expression, Number, Null, Variable, Element, Binary, Statements, From, nodes}
+use Rattle.refine_expressions.specs.rpp_tree.Tree.{Expression, Number, Null, Variable, Element, Binary, Statements, From, nodes}
 use Rattle.refine_expressions.specs.inverse_rules.Inverse.{inverse}
 use Rattle.refine_expressions.specs.pisa_isa.Machine.{Memory}
 use Rattle.refine_expressions.specs.paired_code.declared.part.Symbol.{Symbol}

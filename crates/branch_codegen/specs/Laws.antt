@@ -2,7 +2,7 @@
 -- same for the code that is made from the conditions, in every scope of the names that it was made
 -- for.
 use Rattle.std.specs.Prelude.{◌≡◌, ℕ, List}
-use Rattle.rpp_tree.specs.Tree.{Expression, Statements, If, From}
+use Rattle.refine_expressions.specs.rpp_tree.Tree.{Expression, Statements, If, From}
 use Rattle.refine_expressions.specs.class_rules.declared.kind.Kind.TheVariants as kind
 use Rattle.refine_expressions.specs.paired_code.declared.part.Symbol.{Symbol}
 use Rattle.refine_expressions.specs.code_scope.Visible.{Known}

@@ -1,4 +1,4 @@
-pub use Rattle.rpp_tree.specs as rpp_tree
+pub use Rattle.refine_form.specs.rpp_tree
 pub use Rattle.refine_expressions.specs.class_rules
 pub use Rattle.refine_expressions.specs.inverse_rules
 pub use Rattle.refine_expressions.specs.pisa_isa

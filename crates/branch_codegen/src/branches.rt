@@ -7,12 +7,10 @@ ghost use Rattle.refine_form.specs.Held.{HoldsCode, HoldsBoth};
 ghost use Rattle.branch_codegen.specs.Branches.{flips, part_code, if_code, check, turn_code, from_code};
 ghost use Rattle.branch_codegen.specs.Laws.{IfCode, FromCode};
 
-use code_conventions::cells::xori;
-use code_conventions::faults::{FI, LOOP};
-use code_conventions::registers::{FLAG, NOUGHT};
-use paired_code::{Piece, branch_if, check_equal, plain, seq, turn_while};
-use refine_form::around;
-use rpp_words::NoMemory;
+use refine_form::cells::xori;
+use refine_form::faults::{FI, LOOP};
+use refine_form::registers::{FLAG, NOUGHT};
+use refine_form::{NoMemory, Piece, around, branch_if, check_equal, plain, seq, turn_while};
 use std::alloc::Global;
 
 /// The code of `if test then yes else no fi after`, over the fragments of its conditions, which

@@ -9,6 +9,5 @@ mod branches;
 mod scoped;
 
 pub use branches::{conditional, repetition};
-pub use code_scope::{Scope, Spot, spot_of};
-pub use refine_expressions::{swap_code, update_code, value_code};
+pub use refine_expressions::{Scope, Spot, spot_of, swap_code, update_code, value_code};
 pub use scoped::{from_code, if_code};

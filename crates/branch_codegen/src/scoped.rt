@@ -1,6 +1,6 @@
 // Conditionals and loops by their expressions, in a scope.
 ghost use Rattle.std.specs.Prelude.{◌≤◌, ◌+◌, ◌*◌, length, IfOk};
-ghost use Rattle.rpp_tree.specs.Views.{expression_of};
+ghost use Rattle.refine_expressions.specs.rpp_tree.Views.{expression_of};
 ghost use Rattle.refine_expressions.specs.code_scope.Visible.{known_in};
 ghost use Rattle.refine_expressions.specs.register_expressions.Code.{words as words_of};
 ghost use Rattle.refine_expressions.specs.register_expressions.Steps.{token_count};
@@ -8,13 +8,10 @@ ghost use Rattle.refine_form.specs.Held.{HoldsBoth};
 ghost use Rattle.branch_codegen.specs.Laws.{IfLaw, FromLaw};
 
 use crate::branches::{conditional, repetition};
-use code_conventions::memory::EXPRESSION_WORDS;
-use code_conventions::registers::FLAG;
-use code_scope::Scope;
-use paired_code::Piece;
-use refine_expressions::test_code;
-use rpp_tree::tree::Expr;
-use rpp_words::NoMemory;
+use refine_expressions::{Expr, Scope, test_code};
+use refine_form::memory::EXPRESSION_WORDS;
+use refine_form::registers::FLAG;
+use refine_form::{NoMemory, Piece};
 use std::alloc::Global;
 
 /// The code of `if test then yes else no fi after`, over the fragments of its blocks. If the two

@@ -8,3 +8,4 @@ mod book;
 mod lists;
 
 pub use book::Book;
+pub use rpp_words::{MOST_DEEP, order_for};

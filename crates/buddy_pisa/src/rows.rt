@@ -1,7 +1,6 @@
 // The registers of the allocator, and its rows: instructions that are run one after the other.
 
-use code_conventions::registers;
-use pisa_isa::{HEAP_CELL, LIST_HEADS, ORDER_CELL, Op};
+use paired_code::{HEAP_CELL, LIST_HEADS, ORDER_CELL, Op, registers};
 
 /// An instruction: its operation, its registers a, b and c, and its immediate word.
 pub type Instruction = (Op, u8, u8, u8, u32);

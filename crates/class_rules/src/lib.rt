@@ -17,3 +17,13 @@ pub use laws::{
 };
 pub use mains::Main;
 pub use method::MethodId;
+pub use rpp_tree::{
+    FieldWord, Input, Limits, NoMemory, Text, copy_vars, less, limits, place_of, tree, wrap_add,
+    wrap_sub,
+};
+
+/// An alias hands on this enum, which contains itself: Rattle does not find one that is handed on by `pub use`.
+pub type Expr = rpp_tree::Expr;
+
+/// An alias hands on this enum, which contains itself: Rattle does not find one that is handed on by `pub use`.
+pub type Stmt = rpp_tree::Stmt;

@@ -1,15 +1,14 @@
 // Classes by number, and their chains of parents.
 ghost use Rattle.std.specs.Prelude.{◌≡◌, MatchResult, None, [], slice_get, map, length, ◌≤◌, IfSome, ◌<◌};
 ghost use Rattle.std.specs.Option.{option_map, unwrap_or};
-ghost use Rattle.rpp_tree.specs.Views.{source_of, class_text_of};
+ghost use Rattle.class_rules.specs.rpp_tree.Views.{source_of, class_text_of};
 ghost use Rattle.class_rules.specs.Rules.{IsFirst, all_class_names};
 ghost use Rattle.class_rules.specs.Chains.{class_named, parent_named, parents as parents_of, chain as chain_within, inheritance_cycle, lines as lines_of};
 
-use class_rules::ClassError;
+use class_rules::limits::MOST_CLASSES;
+use class_rules::tree::{Ident, Program};
+use class_rules::{ClassError, Text};
 use indexmap::IndexSet;
-use rpp_tree::Text;
-use rpp_tree::limits::MOST_CLASSES;
-use rpp_tree::tree::{Ident, Program};
 use std::alloc::Global;
 
 /// The number of the class of this name.

@@ -1,11 +1,11 @@
 // Accepted programs with their tables.
 ghost use Rattle.std.specs.Prelude.{◌≡◌};
-ghost use Rattle.rpp_tree.specs.Views.{source_of};
+ghost use Rattle.class_rules.specs.rpp_tree.Views.{source_of};
 ghost use Rattle.class_rules.specs.Table.{table_of};
 ghost use Rattle.class_rules.specs.Program.{IsAccepted};
 
 use crate::table::ClassTable;
-use rpp_tree::tree::Program;
+use class_rules::tree::Program;
 use std::marker::Model;
 
 /// A program that every rule accepts, with its class table.
@@ -16,9 +16,9 @@ pub struct Checked {
 }
 
 impl Model for Checked {
-    ghost use Rattle.rpp_tree.specs.declared.tree.Program.{Program as Text};
-    ghost use Rattle.rpp_tree.specs.contracts.tree.Stmt as stmt;
-    ghost use Rattle.rpp_tree.specs.contracts.tree.Expr as expr;
+    ghost use Rattle.class_rules.specs.rpp_tree.declared.tree.Program.{Program as Text};
+    ghost use Rattle.class_rules.specs.rpp_tree.contracts.tree.Stmt as stmt;
+    ghost use Rattle.class_rules.specs.rpp_tree.contracts.tree.Expr as expr;
     ghost use Rattle.std.specs.Coded.{codes};
 
     ghost Value = { Text };
@@ -26,7 +26,7 @@ impl Model for Checked {
     ghost coded = { Prim.hlevel (codes, stmt.the_row.coded, expr.the_row.coded) };
 
     ghost use Rattle.std.specs.Prelude.{◌≡◌};
-    ghost use Rattle.rpp_tree.specs.Views.{source_of};
+    ghost use Rattle.class_rules.specs.rpp_tree.Views.{source_of};
     ghost use Rattle.class_rules.specs.Table.{table_of};
     ghost use Rattle.class_rules.specs.Program.{IsAccepted};
 

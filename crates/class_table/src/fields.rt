@@ -1,7 +1,7 @@
 // The fields of classes.
 ghost use Rattle.std.specs.Prelude.{◌≡◌, ◌-◌, ◌<◌, ◌≤◌, ◌++◌, MatchResult, IfSome, None, [], map, length, take, position};
 ghost use Rattle.std.specs.Str.{bytes_eq};
-ghost use Rattle.rpp_tree.specs.Views.{source_of, class_text_of};
+ghost use Rattle.class_rules.specs.rpp_tree.Views.{source_of, class_text_of};
 ghost use Rattle.class_rules.specs.Rules.{IsFirst};
 ghost use Rattle.class_rules.specs.Names.{with_names};
 ghost use Rattle.class_rules.specs.Chains.{lines as lines_of};
@@ -9,11 +9,10 @@ ghost use Rattle.class_rules.specs.Members.{class_at, field_name, class_fields, 
 
 use crate::chains::line_at;
 use crate::names::add_name;
-use class_rules::ClassError;
+use class_rules::limits::{LimitKind, MOST_FIELDS};
+use class_rules::tree::{Class, Program, Var};
+use class_rules::{ClassError, Text};
 use indexmap::IndexSet;
-use rpp_tree::Text;
-use rpp_tree::limits::{LimitKind, MOST_FIELDS};
-use rpp_tree::tree::{Class, Program, Var};
 use std::alloc::Global;
 use std::marker::Model;
 
@@ -26,7 +25,7 @@ pub struct ClassFields {
 
 impl Model for ClassFields {
     ghost use Rattle.std.specs.Prelude.{◌≡◌, List, map, length, ◌≤◌};
-    ghost use Rattle.rpp_tree.specs.declared.tree.Var.{Var};
+    ghost use Rattle.class_rules.specs.rpp_tree.declared.tree.Var.{Var};
     ghost use Rattle.class_rules.specs.Members.{field_name};
 
     ghost Value = { List Var };

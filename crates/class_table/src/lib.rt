@@ -15,8 +15,17 @@ mod slots;
 mod table;
 
 pub use checked::Checked;
-pub use class_rules::{ClassError, Kind, MethodId};
+pub use class_rules::{
+    ClassError, FieldWord, Input, Kind, Limits, MethodId, NoMemory, Text, copy_vars, less, limits,
+    place_of, tree, wrap_add, wrap_sub,
+};
 pub use mains::is_main;
 pub use overrides::same_type;
 pub use slots::methods_at;
 pub use table::ClassTable;
+
+/// An alias hands on this enum, which contains itself: Rattle does not find one that is handed on by `pub use`.
+pub type Expr = class_rules::Expr;
+
+/// An alias hands on this enum, which contains itself: Rattle does not find one that is handed on by `pub use`.
+pub type Stmt = class_rules::Stmt;

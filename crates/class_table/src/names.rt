@@ -2,9 +2,8 @@
 ghost use Rattle.std.specs.Prelude.{◌≡◌, MatchResult, not, IsTrue, ◌++◌, ◌∷◌, []};
 ghost use Rattle.class_rules.specs.Names.{has_name, with_name};
 
-use class_rules::ClassError;
+use class_rules::{ClassError, Text};
 use indexmap::IndexSet;
-use rpp_tree::Text;
 use std::alloc::Global;
 
 /// Puts a copy of a name last, unless the name is there. Says whether it was not there.

@@ -1,7 +1,7 @@
 // Methods that a class declares twice, or overrides with other parameters.
 ghost use Rattle.std.specs.Prelude.{◌≡◌, ◌<◌, ◌≤◌, MatchResult, None, [], map, length, take};
 ghost use Rattle.std.specs.Option.{option_map};
-ghost use Rattle.rpp_tree.specs.Views.{source_of, class_text_of, procedure_of};
+ghost use Rattle.class_rules.specs.rpp_tree.Views.{source_of, class_text_of, procedure_of};
 ghost use Rattle.class_rules.specs.Rules.{IsFirst};
 ghost use Rattle.class_rules.specs.Refusal.{refused};
 ghost use Rattle.class_rules.specs.First.{first_in, first_after};
@@ -11,10 +11,9 @@ ghost use Rattle.class_rules.specs.Overrides.{method_name, method_taken, duplica
 use crate::chains::line_at;
 use crate::names::add_name;
 use crate::slots::{methods_at, runs_at, slots_along};
-use class_rules::{ClassError, MethodId};
+use class_rules::tree::{Class, Method, Program, Var, VarType};
+use class_rules::{ClassError, MethodId, Text};
 use indexmap::{IndexMap, IndexSet};
-use rpp_tree::Text;
-use rpp_tree::tree::{Class, Method, Program, Var, VarType};
 use std::alloc::Global;
 
 /// Whether each method of a class has a name of its own.

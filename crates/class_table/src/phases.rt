@@ -1,16 +1,15 @@
 // The phases in which a class table is refused.
 ghost use Rattle.std.specs.Prelude.{◌≡◌, MatchResult, None, map};
 ghost use Rattle.std.specs.Option.{option_map};
-ghost use Rattle.rpp_tree.specs.Views.{source_of, class_text_of, procedure_of};
+ghost use Rattle.class_rules.specs.rpp_tree.Views.{source_of, class_text_of, procedure_of};
 ghost use Rattle.class_rules.specs.Rules.{IsFirst, all_class_names, duplicate_class, unknown_class, unknown_in_class, unknown_params, unknown_var, unknown_type, unknown_name, unknown_parent};
 ghost use Rattle.class_rules.specs.Refusal.{refused};
 ghost use Rattle.class_rules.specs.First.{first_in};
 
 use crate::names::add_name;
-use class_rules::ClassError;
+use class_rules::tree::{Class, Ident, Method, Program, Var, VarType};
+use class_rules::{ClassError, Text};
 use indexmap::IndexSet;
-use rpp_tree::Text;
-use rpp_tree::tree::{Class, Ident, Method, Program, Var, VarType};
 use std::alloc::Global;
 
 /// The names of the classes, each of which has only one.

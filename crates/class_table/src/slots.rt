@@ -1,18 +1,17 @@
 // The method slots of classes.
 ghost use Rattle.std.specs.Prelude.{◌≡◌, ◌<◌, ◌≤◌, MatchResult, None, [], map, length, position};
 ghost use Rattle.std.specs.Str.{bytes_eq};
-ghost use Rattle.rpp_tree.specs.Views.{source_of, class_text_of, procedure_of};
+ghost use Rattle.class_rules.specs.rpp_tree.Views.{source_of, class_text_of, procedure_of};
 ghost use Rattle.class_rules.specs.Rules.{IsFirst};
 ghost use Rattle.class_rules.specs.Chains.{lines as lines_of};
 ghost use Rattle.class_rules.specs.Overrides.{run_at};
 ghost use Rattle.class_rules.specs.Members.{class_at, with_methods, slots_along as all_slots, class_slots, slots as slots_of_all, too_many_slots_at, too_many_slots};
 
 use crate::chains::line_at;
-use class_rules::{ClassError, MethodId};
+use class_rules::limits::{LimitKind, MOST_METHODS};
+use class_rules::tree::{Class, Method, Program};
+use class_rules::{ClassError, MethodId, Text};
 use indexmap::IndexMap;
-use rpp_tree::Text;
-use rpp_tree::limits::{LimitKind, MOST_METHODS};
-use rpp_tree::tree::{Class, Method, Program};
 use std::alloc::Global;
 use std::marker::Model;
 
@@ -25,7 +24,7 @@ pub struct MethodSlots {
 impl Model for MethodSlots {
     ghost use Rattle.std.specs.Prelude.{List, ℕ, length, ◌≤◌};
     ghost use Rattle.class_rules.specs.declared.method.MethodId.{MethodId};
-    ghost use Rattle.rpp_tree.specs.declared.limits.TheConstants.{MOST_METHODS};
+    ghost use Rattle.class_rules.specs.rpp_tree.declared.limits.TheConstants.{MOST_METHODS};
 
     ghost Value = { List (List ℕ × MethodId) };
 

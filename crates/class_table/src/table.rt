@@ -1,6 +1,6 @@
 // The class table.
 ghost use Rattle.std.specs.Prelude.{◌≡◌, ◌<◌, ◌≤◌, IfOk, IfErr, OnOk, IfSome, length};
-ghost use Rattle.rpp_tree.specs.Views.{source_of};
+ghost use Rattle.class_rules.specs.rpp_tree.Views.{source_of};
 ghost use Rattle.class_rules.specs.Rules.{IsFirst};
 ghost use Rattle.class_rules.specs.Table.{table_of, first_class_refusal, HasClassTable, class_of, fields_in, field_in, slots_in, slot_in, dispatch_in, inherits_in};
 
@@ -10,11 +10,10 @@ use crate::mains::the_main;
 use crate::overrides::{check_methods, check_overrides};
 use crate::phases::{know_classes, name_classes};
 use crate::slots::{MethodSlots, slots};
-use class_rules::{ClassError, MethodId};
+use class_rules::limits::{MOST_CLASSES, MOST_METHODS};
+use class_rules::tree::{Program, Var};
+use class_rules::{ClassError, MethodId, Text};
 use indexmap::IndexSet;
-use rpp_tree::Text;
-use rpp_tree::limits::{MOST_CLASSES, MOST_METHODS};
-use rpp_tree::tree::{Program, Var};
 use std::alloc::Global;
 use std::marker::Model;
 
@@ -37,7 +36,7 @@ impl Model for ClassTable {
     ghost Value = { Table };
 
     ghost use Rattle.std.specs.Prelude.{map, ◌≤◌, length};
-    ghost use Rattle.rpp_tree.specs.declared.limits.TheConstants.{MOST_CLASSES};
+    ghost use Rattle.class_rules.specs.rpp_tree.declared.limits.TheConstants.{MOST_CLASSES};
 
     ghost view = { λ t. record {
       names = t.names.keys;

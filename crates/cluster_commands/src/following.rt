@@ -4,10 +4,8 @@ ghost use Rattle.cluster_commands.specs.ClusterScripts.{IsEvent};
 ghost use Rattle.cluster_commands.specs.ClusterShown.{MakesSteps, Shows, ShowsAll, made_line, undone_line as line_of_undone, rewound_line};
 
 use crate::script::Event;
-use pisa_cluster::{Cluster, Moved, Undone};
-use pisa_isa::Stop;
-use pisa_scripts::add_stop;
-use rpp_words::NoMemory;
+use command_plan::{NoMemory, add_stop};
+use pisa_cluster::{Cluster, Moved, Stop, Undone};
 use std::alloc::{AllocError, Global};
 
 // How many steps a processor made, and why it stopped, if it did.

@@ -12,13 +12,11 @@ use crate::error::ScriptError;
 use crate::following::follow;
 use crate::script::{Event, read_events};
 use crate::shown::add_end;
-use command_plan::{MOST_IMAGE, NoPlan, Plan, Verdict, bad_command_line, image_line, read_file};
-use pisa_cluster::Cluster;
-use pisa_image::{ImageError, read_image};
-use pisa_isa::Image;
-use pisa_scripts::MOST_SCRIPT;
-use rpp_ports::Shelf;
-use rpp_words::NoMemory;
+use command_plan::{
+    ImageError, MOST_IMAGE, MOST_SCRIPT, NoMemory, NoPlan, Plan, Shelf, Verdict, bad_command_line,
+    image_line, read_file, read_image,
+};
+use pisa_cluster::{Cluster, Image};
 use std::alloc::Global;
 
 /// Carries out the script in a file on the processors of the images in files, which share so many

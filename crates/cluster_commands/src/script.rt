@@ -4,7 +4,7 @@ ghost use Rattle.command_plan.specs.pisa_scripts.Lines.{pieces as pieces_of, num
 ghost use Rattle.cluster_commands.specs.ClusterScripts.{IsEvent, from_one, script_event as event_of_words, step_event, undo_event, rewind_event, with_event_line, events_from, events_of, EventsGive};
 
 use crate::error::ScriptError;
-use pisa_scripts::{MOST_SCRIPT, is_blank, number_up_to, pieces, without_returns};
+use command_plan::{MOST_SCRIPT, is_blank, number_up_to, pieces, without_returns};
 use std::alloc::Global;
 
 /// The most steps that one line asks for.

@@ -2,9 +2,8 @@
 ghost use Rattle.std.specs.Prelude.{◌≡◌, ◌<◌, ◌≤◌, ◌+◌, ◌^◌, ◌++◌, length, OnOk, string_bytes};
 ghost use Rattle.cluster_commands.specs.ClusterShown.{kept_step_line, processor_line, processor_lines, filled_line, filled_lines, schedule_end_shown};
 
-use pisa_cluster::Cluster;
-use pisa_isa::Core;
-use pisa_scripts::{add_cell, direction};
+use command_plan::{add_cell, direction};
+use pisa_cluster::{Cluster, Core};
 use std::alloc::AllocError;
 
 // Adds the line on how many steps are kept.

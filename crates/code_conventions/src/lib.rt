@@ -8,3 +8,9 @@ pub mod cells;
 pub mod faults;
 pub mod memory;
 pub mod registers;
+
+pub use pisa_isa::{
+    Cell, Cells, Core, END_CELL, FRAME_WORDS, FieldName, HEADER_WORDS, HEAP_CELL, Image,
+    LAST_PLACE, LIST_HEADS, MOST_CELLS, MOST_MARKS, MOST_STATICS, Mark, NoMemory, NoteText, Noted,
+    Notes, ORDER_CELL, Op, STACK_CELL, Stop, step, wrap_add,
+};

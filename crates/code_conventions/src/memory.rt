@@ -3,11 +3,11 @@
 ghost use Rattle.std.specs.Prelude.{◌≡◌};
 ghost use Rattle.code_conventions.specs.Header.{header};
 
-use rpp_words::FIXED_CELLS;
+use pisa_isa::FIXED_CELLS;
 
 /// The words before an object's fields, or of an array's elements: its class's table's address or
 /// its length, and its count.
-pub const HEADER_WORDS: u32 = rpp_words::HEADER_WORDS;
+pub const HEADER_WORDS: u32 = pisa_isa::HEADER_WORDS;
 /// The word of an object that counts the cells that refer to it.
 pub const COUNT_WORD: u32 = 1;
 /// The address of the main object: after the machine's own cells.

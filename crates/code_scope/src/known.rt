@@ -2,7 +2,7 @@
 ghost use Rattle.std.specs.Prelude.{◌≤◌, length};
 ghost use Rattle.refine_form.specs.code_conventions.declared.memory.TheConstants.{MOST_VARIABLES};
 
-use rpp_tree::tree::Var;
+use class_table::tree::Var;
 
 /// The visible parameters and locals, the outermost first, and the fields of the class.
 #[derive(Drop)]

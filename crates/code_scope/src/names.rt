@@ -6,10 +6,10 @@ ghost use Rattle.refine_form.specs.code_conventions.declared.memory.TheConstants
 ghost use Rattle.code_scope.specs.Visible.{offset_of, word_named, place_named, type_named, field_type, kind_named, spot_named, spot_of as spot_of_name, free_words_of, known_by};
 
 use crate::known::Names;
-use code_conventions::memory::FIRST_VARIABLE;
+use class_table::Text;
+use class_table::tree::{Var, VarType};
 use refine_form::Spot;
-use rpp_tree::Text;
-use rpp_tree::tree::{Var, VarType};
+use refine_form::memory::FIRST_VARIABLE;
 
 // The word of the frame of the innermost of these variables that has the name.
 fn word(variables: &[Var], name: &Text) -> Option<u32>

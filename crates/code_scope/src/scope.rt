@@ -9,11 +9,9 @@ ghost use Rattle.code_scope.specs.Visible.{offset_of, kind_named, spot_named, fr
 
 use crate::known::Names;
 use crate::names::{free_word, kind_by, spot_by};
-use class_table::{Checked, MethodId, methods_at};
+use class_table::tree::{Method, Var, VarType};
+use class_table::{Checked, MethodId, NoMemory, Text, copy_vars, methods_at};
 use refine_form::Spot;
-use rpp_tree::tree::{Method, Var, VarType};
-use rpp_tree::{Text, copy_vars};
-use rpp_words::NoMemory;
 use std::alloc::Global;
 use std::marker::Model;
 

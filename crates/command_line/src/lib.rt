@@ -4,5 +4,8 @@
 
 mod line;
 
-pub use command_plan::StateNames;
+pub use command_plan::{
+    Broken, MOST_IMAGE, MOST_INPUT, MOST_SCRIPT, MOST_STATE, MOST_TEXT, NoPlan, OLD_VERSION, Plan,
+    Room, Sizes, StateNames, VERSION, Verdict, limits, status_of,
+};
 pub use line::{Line, MOST_COMMON, MOST_ITEMS, MOST_PROCESSORS, read_words};

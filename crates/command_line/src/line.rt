@@ -7,9 +7,7 @@ ghost use Rattle.command_line.specs.Lines.{Trace, RunImage, Wrap, asked, line_of
 ghost use Rattle.command_line.specs.declared.line.TheConstants.{MOST_ITEMS, MOST_COMMON};
 ghost use Rattle.command_plan.specs.Files.{state_of_names, save_of_names};
 
-use command_plan::{Room, Sizes, StateNames};
-use pisa_scripts::short_number;
-use rpp_words::NoMemory;
+use command_plan::{NoMemory, Room, Sizes, StateNames, short_number};
 use std::alloc::Global;
 
 /// A command with its words read.

@@ -2,7 +2,7 @@
 use Rattle.std.specs.Prelude.{◌≡◌, ◌≢◌, ◌++◌, codes, string_bytes, ◌⊎◌, ℕ, ◌≤◌, List, [], ◌∷◌, ⊤}
 use Rattle.std.specs.Prelude.{None, Some, IsSomeAnd, IfSome, OnOk, IfErr, Result, if◌then◌else◌}
 use Rattle.std.specs.declared.option.Option.{Option}
-use Rattle.rpp_tree.specs.declared.limits.TheConstants.{MOST_BYTES}
+use Rattle.class_table.specs.rpp_tree.declared.limits.TheConstants.{MOST_BYTES}
 use Rattle.pisa_loader.specs.declared.input.TheConstants.{MOST_INPUT}
 use Rattle.rpp_ports.specs.Ports.{Texts, Rose, IsMissing, IsTooLong, ReadCause}
 use Rattle.rpp_ports.specs.declared.shelf.ShelfFault.{ShelfFault}

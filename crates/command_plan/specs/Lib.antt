@@ -1,7 +1,7 @@
 pub use Rattle.pisa_scripts.specs.rpp_words
 pub use Rattle.rpp_ports.specs as rpp_ports
 pub use Rattle.pisa_loader.specs.rpp_probes
-pub use Rattle.rpp_tree.specs as rpp_tree
+pub use Rattle.class_table.specs.rpp_tree
 pub use Rattle.class_table.specs.class_rules
 pub use Rattle.pisa_loader.specs.pisa_image
 pub use Rattle.pisa_asm.specs as pisa_asm

@@ -61,10 +61,10 @@ impl From<AllocError> for NoPlan {
     }
 }
 
-impl From<rpp_words::NoMemory> for NoPlan {
+impl From<class_table::NoMemory> for NoPlan {
     ghost from_gives = { λ _ e. e ≡ NoMemory };
 
-    fn from(_: rpp_words::NoMemory) -> Self {
+    fn from(_: class_table::NoMemory) -> Self {
         NoPlan::NoMemory
     }
 }

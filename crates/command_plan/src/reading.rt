@@ -4,14 +4,14 @@ ghost use Rattle.command_plan.specs.Files.{state_of_names, OnlyReads, image_file
 ghost use Rattle.command_plan.specs.Plans.{IsInputText, IsStateText};
 ghost use Rattle.command_plan.specs.Reads.{Gave, Asks};
 ghost use Rattle.rpp_ports.specs.Ports.{IsTextOf};
-ghost use Rattle.rpp_tree.specs.declared.limits.TheConstants.{MOST_BYTES};
+ghost use Rattle.class_table.specs.rpp_tree.declared.limits.TheConstants.{MOST_BYTES};
 ghost use Rattle.pisa_loader.specs.declared.input.TheConstants.{MOST_INPUT};
 
 use crate::plan::NoPlan;
+use class_table::NoMemory;
+use class_table::limits::MOST_BYTES;
 use pisa_loader::MOST_INPUT;
 use rpp_ports::{Shelf, ShelfFault};
-use rpp_tree::MOST_BYTES;
-use rpp_words::NoMemory;
 use std::alloc::{AllocError, Global};
 
 /// The file of the state that a run begins with, `-` for the loaded memory, and the file for the

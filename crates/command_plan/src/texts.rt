@@ -9,10 +9,8 @@ ghost use Rattle.pisa_scripts.specs.Stops.{fault_line as line_of_fault};
 use crate::plan::Plan;
 use command_ends::Verdict;
 use pisa_asm::AsmError;
-use pisa_image::ImageError;
-use pisa_isa::Stop;
-use pisa_loader::LoadError;
-use pisa_scripts::add_stop;
+use pisa_loader::{ImageError, LoadError};
+use pisa_scripts::{Stop, add_stop};
 use std::alloc::{AllocError, Global};
 
 /// The plan that prints a refusal of a source.

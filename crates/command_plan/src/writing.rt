@@ -7,9 +7,9 @@ ghost use Rattle.command_plan.specs.Plans.{planned, writes};
 ghost use Rattle.command_plan.specs.Texts.{cells_line as line_of_cells};
 
 use crate::plan::Plan;
-use pisa_image::write_image;
-use pisa_isa::{Cell, Noted};
-use rpp_words::NoMemory;
+use class_table::NoMemory;
+use pisa_loader::write_image;
+use pisa_scripts::{Cell, Noted};
 use std::alloc::{AllocError, Global};
 
 /// The plan that writes an image with its notes, and prints what was done with its cells.

@@ -1,2 +1,3 @@
 pub use Rattle.pisa_scripts.specs as pisa_scripts
+pub use Rattle.pisa_scripts.specs.rpp_words
 pub mod Scripts

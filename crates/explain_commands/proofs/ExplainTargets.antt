@@ -2,19 +2,19 @@
 use Rattle.std.proofs.Common.{◌≡◌, ℕ, List, None, Some, Ok, Err, inl, refl}
 use Rattle.std.specs.declared.option.Option.{Option}
 use Rattle.std.specs.Prelude.{Result}
-use Rattle.roopl_judge.specs.rpp_words.declared.input.FieldWord.{FieldWord}
-use Rattle.roopl_judge.specs.rpp_words.declared.input.Limits.{Limits}
-use Rattle.roopl_judge.specs.rpp_tree.Tree.{Source}
-use Rattle.command_plan.specs.declared.plan.Sizes.{Sizes}
-use Rattle.command_plan.specs.rpp_ports.Ports.{Texts}
-use Rattle.command_plan.specs.pisa_loader.Limiting.{limits_refusal}
-use Rattle.command_plan.specs.pisa_loader.declared.error.LoadError.{LoadError}
+use Rattle.run_settings.specs.rpp_words.declared.input.FieldWord.{FieldWord}
+use Rattle.run_settings.specs.rpp_words.declared.input.Limits.{Limits}
+use Rattle.run_settings.specs.rpp_tree.Tree.{Source}
+use Rattle.run_settings.specs.command_plan.declared.plan.Sizes.{Sizes}
+use Rattle.run_settings.specs.rpp_ports.Ports.{Texts}
+use Rattle.run_settings.specs.pisa_loader.Limiting.{limits_refusal}
+use Rattle.run_settings.specs.pisa_loader.declared.error.LoadError.{LoadError}
 use Rattle.store_report.specs.roopl_semantics.Run.{Run, Done as OverWith, Fault, More}
 use Rattle.store_report.specs.roopl_semantics.Store.{State}
 use Rattle.store_report.specs.roopl_semantics.Source.{source}
 use Rattle.source_meaning.specs.declared.whole.TheConstants.{MOST_OPEN}
-use Rattle.command_plan.specs.Plans.{Planned, WritesOnly}
-use Rattle.command_plan.proofs.Writes.{along}
+use Rattle.run_settings.specs.command_plan.Plans.{Planned, WritesOnly}
+use Rattle.run_settings.proofs.command_plan_laws.Writes.{along}
 use Rattle.run_settings.specs.Inputs.{given_input}
 use Rattle.run_settings.proofs.RefusedRuns.{judged_writes}
 use Rattle.explain_commands.specs.Explained.{explained, IsExplainedInput, IsExplainedWithin, IsExplainPlan, Explains}

@@ -2,12 +2,12 @@
 use Rattle.std.proofs.Common.{◌≡◌, ℕ, suc, ◌+◌, ◌≤◌, sym, ap, ◌∙◌, arith, List, [], ◌∷◌, ◌++◌, append_assoc, length}
 use Rattle.std.proofs.Common.{drop, Some, None}
 use Rattle.std.specs.Prelude.{Result, Ok, Err, OnOk}
-use Rattle.roopl_judge.specs.rpp_tree.declared.tree.Var.{Var}
+use Rattle.run_settings.specs.rpp_tree.declared.tree.Var.{Var}
 use Rattle.std.proofs.lemmas.List.{append-nil}
 use Rattle.std.proofs.lemmas.Option.{slice_get_past}
 use Rattle.std.specs.Prelude.{slice_get}
 use Rattle.explain_commands.proofs.Walked.{drop_at, drop_past}
-use Rattle.roopl_judge.specs.rpp_tree.Tree.{Source}
+use Rattle.run_settings.specs.rpp_tree.Tree.{Source}
 use Rattle.store_report.specs.roopl_semantics.Store.{Value, Store, object_at}
 use Rattle.store_report.specs.roopl_semantics.Report.{field_lines, object_lines}
 use Rattle.store_report.specs.roopl_semantics.Report.{object_text}

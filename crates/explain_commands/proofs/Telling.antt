@@ -1,16 +1,16 @@
 -- What is printed of a result of the interpreter is what the semantics is.
 use Rattle.std.proofs.Common.{◌≡◌, ◌∙◌, sym, ap, ◌++◌}
 use Rattle.std.specs.Prelude.{Result, Ok, Err, IfOk}
-use Rattle.roopl_judge.specs.rpp_tree.Tree.{Source}
+use Rattle.run_settings.specs.rpp_tree.Tree.{Source}
 use Rattle.store_report.specs.roopl_semantics.Run.{Run}
 use Rattle.store_report.specs.roopl_semantics.Store.{State}
 use Rattle.store_report.specs.roopl_semantics.Report.{report}
 use Rattle.source_meaning.specs.declared.outcome.Outcome.{Outcome}
 use Rattle.source_meaning.specs.declared.outcome.Outcome.TheVariants as outcome
 use Rattle.source_meaning.specs.Outcomes.{IsOutcome}
-use Rattle.command_plan.specs.declared.plan.Plan.{Plan}
-use Rattle.command_plan.specs.command_ends.declared.verdict.Verdict.TheVariants.{Done}
-use Rattle.command_plan.specs.Plans.{Planned, planned, prints}
+use Rattle.run_settings.specs.command_plan.declared.plan.Plan.{Plan}
+use Rattle.run_settings.specs.command_ends.declared.verdict.Verdict.TheVariants.{Done}
+use Rattle.run_settings.specs.command_plan.Plans.{Planned, planned, prints}
 use Rattle.explain_commands.specs.Explained.{cost_line, explained, Tells}
 
 told_is : (program : Source) (answer : Outcome) (run : Run State) (p : Planned) → IsOutcome answer run

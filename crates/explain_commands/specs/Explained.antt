@@ -2,15 +2,15 @@
 use Rattle.std.specs.Prelude.{◌≡◌, ℕ, List, ◌++◌, None, Some, Result, Ok, Err, codes}
 use Rattle.std.specs.declared.option.Option.{Option}
 use Rattle.std.specs.Fmt.{decimal}
-use Rattle.roopl_judge.specs.rpp_words.Texts.{line_end}
-use Rattle.roopl_judge.specs.rpp_words.declared.input.FieldWord.{FieldWord}
-use Rattle.roopl_judge.specs.rpp_words.declared.input.Limits.{Limits}
-use Rattle.roopl_judge.specs.rpp_tree.declared.limits.TheConstants.{MOST_BYTES}
-use Rattle.roopl_judge.specs.rpp_tree.Tree.{Source}
-use Rattle.command_plan.specs.declared.plan.Sizes.{Sizes}
-use Rattle.command_plan.specs.rpp_ports.Ports.{Texts}
-use Rattle.command_plan.specs.pisa_loader.Limiting.{limits_refusal}
-use Rattle.command_plan.specs.pisa_loader.declared.error.LoadError.{LoadError}
+use Rattle.run_settings.specs.rpp_words.Texts.{line_end}
+use Rattle.run_settings.specs.rpp_words.declared.input.FieldWord.{FieldWord}
+use Rattle.run_settings.specs.rpp_words.declared.input.Limits.{Limits}
+use Rattle.run_settings.specs.rpp_tree.declared.limits.TheConstants.{MOST_BYTES}
+use Rattle.run_settings.specs.rpp_tree.Tree.{Source}
+use Rattle.run_settings.specs.command_plan.declared.plan.Sizes.{Sizes}
+use Rattle.run_settings.specs.rpp_ports.Ports.{Texts}
+use Rattle.run_settings.specs.pisa_loader.Limiting.{limits_refusal}
+use Rattle.run_settings.specs.pisa_loader.declared.error.LoadError.{LoadError}
 use Rattle.store_report.specs.roopl_semantics.Run.{Run, Done as OverWith, Fault, More}
 use Rattle.store_report.specs.roopl_semantics.Store.{State}
 use Rattle.store_report.specs.roopl_semantics.Source.{source}
@@ -18,10 +18,10 @@ use Rattle.store_report.specs.roopl_semantics.Report.{report}
 use Rattle.source_meaning.specs.declared.outcome.Outcome.{Outcome}
 use Rattle.source_meaning.specs.declared.outcome.Outcome.TheVariants as outcome
 use Rattle.source_meaning.specs.declared.whole.TheConstants.{MOST_OPEN}
-use Rattle.command_plan.specs.command_ends.declared.verdict.Verdict.TheVariants.{Done, Trapped, Bound, InputRefused}
-use Rattle.command_plan.specs.Plans.{Planned, prints, WithText, WithInput}
-use Rattle.command_plan.specs.Texts.{load_line}
-use Rattle.command_plan.specs.pisa_scripts.Stops.{fault_line}
+use Rattle.run_settings.specs.command_ends.declared.verdict.Verdict.TheVariants.{Done, Trapped, Bound, InputRefused}
+use Rattle.run_settings.specs.command_plan.Plans.{Planned, prints, WithText, WithInput}
+use Rattle.run_settings.specs.command_plan.Texts.{load_line}
+use Rattle.run_settings.specs.pisa_scripts.Stops.{fault_line}
 use Rattle.run_settings.specs.Inputs.{given_input}
 use Rattle.run_settings.specs.Runnable.{IsJudgedPlan}
 

@@ -1,31 +1,28 @@
 // `explain F H D FUEL [INPUT]`: interprets a program and reports.
 ghost use Rattle.std.specs.Prelude.{◌≡◌, ◌≤◌, ◌<◌, ◌^◌, ◌++◌, ◌∷◌, length, option_map, IfOk, string_bytes};
-ghost use Rattle.roopl_judge.specs.rpp_words.Limits.{IsLimits};
-ghost use Rattle.roopl_judge.specs.rpp_tree.Views.{source_of};
-ghost use Rattle.roopl_judge.specs.rpp_tree.declared.limits.TheConstants.{MOST_BYTES};
+ghost use Rattle.run_settings.specs.rpp_words.Limits.{IsLimits};
+ghost use Rattle.run_settings.specs.rpp_tree.Views.{source_of};
+ghost use Rattle.run_settings.specs.rpp_tree.declared.limits.TheConstants.{MOST_BYTES};
 ghost use Rattle.store_report.specs.roopl_semantics.Source.{IsValid, source as meaning};
 ghost use Rattle.store_report.specs.roopl_semantics.Report.{report as report_in};
 ghost use Rattle.source_meaning.specs.declared.whole.TheConstants.{MOST_OPEN};
-ghost use Rattle.command_plan.specs.pisa_loader.Limiting.{limits_refusal};
-ghost use Rattle.command_plan.specs.pisa_loader.declared.input.TheConstants.{MOST_INPUT};
-ghost use Rattle.command_plan.specs.Plans.{planned, prints, GivesPlan};
-ghost use Rattle.command_plan.specs.Files.{OnlyReads, source_file, input_files};
-ghost use Rattle.command_plan.specs.pisa_scripts.Stops.{fault_line as line_of_fault};
+ghost use Rattle.run_settings.specs.pisa_loader.Limiting.{limits_refusal};
+ghost use Rattle.run_settings.specs.pisa_loader.declared.input.TheConstants.{MOST_INPUT};
+ghost use Rattle.run_settings.specs.command_plan.Plans.{planned, prints, GivesPlan};
+ghost use Rattle.run_settings.specs.command_plan.Files.{OnlyReads, source_file, input_files};
+ghost use Rattle.run_settings.specs.pisa_scripts.Stops.{fault_line as line_of_fault};
 ghost use Rattle.run_settings.specs.Inputs.{given_input};
 ghost use Rattle.explain_commands.specs.Explained.{cost_line, explained, Tells, IsExplainedInput, IsExplainedWithin, IsExplainPlan, Explains};
 
 use crate::stores::report_store;
-use class_table::Checked;
-use command_plan::{
-    NoPlan, Plan, Sizes, Verdict, fault_line, load_line, read_given, refuse_source,
+use run_settings::{
+    Input, Limits, LoadError, NoMemory, NoPlan, Plan, Shelf, Sizes, SourceError, Verdict,
+    check_limits, fault_line, input_fields, judge, load_line, read_given, read_input,
+    refuse_source,
 };
-use pisa_loader::{LoadError, check_limits, read_input};
-use roopl_judge::{SourceError, judge};
-use rpp_ports::Shelf;
-use rpp_words::{Input, Limits, NoMemory};
-use run_settings::input_fields;
 use source_meaning::{MOST_OPEN, Outcome, Store, interpret};
 use std::alloc::{AllocError, Global};
+use store_report::Checked;
 
 /// Interprets the program in a file, on an input if there is one, and reports.
 pub fn explain<S: Shelf>(

@@ -6,8 +6,8 @@ ghost use Rattle.store_report.specs.roopl_semantics.Report.{newly_met, numbered 
 ghost use Rattle.source_meaning.specs.source_store.ValueView.{value_of, values_of};
 
 use indexmap::IndexSet;
-use rpp_words::NoMemory;
-use source_store::{Heap, Value};
+use run_settings::NoMemory;
+use source_meaning::{Heap, Value};
 use std::alloc::Global;
 
 /// The place of a name among these.

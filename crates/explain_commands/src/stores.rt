@@ -5,25 +5,23 @@ ghost use Rattle.std.specs.Option.{unwrap_or};
 ghost use Rattle.std.specs.Str.{IsAscii};
 ghost use Rattle.std.specs.Fmt.{decimal};
 ghost use Rattle.store_report.specs.roopl_semantics.Source.{main_fields};
-ghost use Rattle.roopl_judge.specs.rpp_words.Texts.{line_end};
-ghost use Rattle.roopl_judge.specs.rpp_tree.Views.{source_of};
-ghost use Rattle.roopl_judge.specs.class_rules.Members.{class_at};
-ghost use Rattle.roopl_judge.specs.class_rules.Classes.{class_fields, main_of};
-ghost use Rattle.roopl_judge.specs.class_rules.Program.{IsAccepted};
+ghost use Rattle.run_settings.specs.rpp_words.Texts.{line_end};
+ghost use Rattle.run_settings.specs.rpp_tree.Views.{source_of};
+ghost use Rattle.run_settings.specs.class_rules.Members.{class_at};
+ghost use Rattle.run_settings.specs.class_rules.Classes.{class_fields, main_of};
+ghost use Rattle.run_settings.specs.class_rules.Program.{IsAccepted};
 ghost use Rattle.store_report.specs.roopl_semantics.Store.{object_at, main_name};
 ghost use Rattle.store_report.specs.roopl_semantics.Report.{report as report_in, value_shown, number_shown, field_lines, element_lines, head_shown, cell_lines, object_lines, live_line, head_line};
 ghost use Rattle.source_meaning.specs.source_store.ValueView.{value_of, values_of, kept_head};
 ghost use Rattle.store_report.specs.Ascii.{HasAsciiName};
 
 use crate::meeting::{cells_at, name_at, numbered, place_of};
-use class_table::Checked;
 use indexmap::IndexSet;
-use rpp_tree::tree::{Program, Var};
-use rpp_words::NoMemory;
-use source_meaning::Store;
-use source_store::{Head, Heap, Value};
+use run_settings::NoMemory;
+use source_meaning::{Head, Heap, Store, Value};
 use std::alloc::{AllocError, Global};
-use store_report::{add_bytes, add_live, add_name, add_word, class_name};
+use store_report::tree::{Program, Var};
+use store_report::{Checked, add_bytes, add_live, add_name, add_word, class_name};
 
 /// The report of a store of the program. It has a line for each field of the main object, the lines
 /// of each object and array that is reachable from it, and the number of those that live.

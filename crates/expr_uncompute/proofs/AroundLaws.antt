@@ -1,7 +1,7 @@
 -- The laws of fragments that find places and values around a middle.
 use Rattle.std.proofs.Common.{◌≡◌, ℕ, ◌+◌, Bool, List, ◌∙◌}
 use Rattle.std.specs.Prelude.{Ok}
-use Rattle.rpp_tree.specs.Tree.{Expression, Null, Lvalue}
+use Rattle.register_expressions.specs.rpp_tree.Tree.{Expression, Null, Lvalue}
 use Rattle.register_expressions.specs.pisa_isa.Machine.{Memory}
 use Rattle.register_expressions.specs.paired_code.declared.part.Symbol.{Symbol}
 use Rattle.register_expressions.specs.paired_code.Machine.{Image, memory_reg}

@@ -2,11 +2,11 @@
 use Rattle.std.proofs.Common.{◌≡◌, ℕ, ◌+◌, ◌*◌, ◌≤◌, Bool, true, false, List, [], ◌∷◌, ◌++◌, length, length-append}
 use Rattle.std.proofs.Common.{refl, arith}
 use Rattle.std.specs.Prelude.{if◌then◌else◌}
-use Rattle.rpp_tree.specs.declared.tree.BinOp.{BinOp}
-use Rattle.rpp_tree.specs.declared.tree.BinOp.TheVariants as op
-use Rattle.rpp_tree.specs.declared.tree.UpdateOp.{UpdateOp}
-use Rattle.rpp_tree.specs.Tree.{Expression, Number, Null, Variable, Element, Binary, Lvalue, Whole, Item, nodes}
-use Rattle.rpp_tree.specs.Tree.{index_nodes}
+use Rattle.register_expressions.specs.rpp_tree.declared.tree.BinOp.{BinOp}
+use Rattle.register_expressions.specs.rpp_tree.declared.tree.BinOp.TheVariants as op
+use Rattle.register_expressions.specs.rpp_tree.declared.tree.UpdateOp.{UpdateOp}
+use Rattle.register_expressions.specs.rpp_tree.Tree.{Expression, Number, Null, Variable, Element, Binary, Lvalue, Whole, Item, nodes}
+use Rattle.register_expressions.specs.rpp_tree.Tree.{index_nodes}
 use Rattle.register_expressions.specs.paired_code.declared.part.Symbol.{Symbol}
 use Rattle.register_expressions.specs.paired_code.Layout.{check_differ_cells}
 use Rattle.register_expressions.specs.refine_form.declared.spot.Spot.{Spot}

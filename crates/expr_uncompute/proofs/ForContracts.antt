@@ -1,7 +1,7 @@
 -- The laws that contracts state.
 use Rattle.std.proofs.Common.{ℕ, List}
-use Rattle.rpp_tree.specs.declared.tree.UpdateOp.{UpdateOp}
-use Rattle.rpp_tree.specs.Tree.{Expression, Lvalue}
+use Rattle.register_expressions.specs.rpp_tree.declared.tree.UpdateOp.{UpdateOp}
+use Rattle.register_expressions.specs.rpp_tree.Tree.{Expression, Lvalue}
 use Rattle.register_expressions.specs.refine_form.declared.spot.Spot.{Spot}
 use Rattle.register_expressions.specs.Code.{Target}
 use Rattle.expr_uncompute.specs.Code.{value_cells, test_cells, update_cells, swap_cells}

@@ -2,7 +2,7 @@
 -- clears it again.
 use Rattle.std.proofs.Common.{◌≡◌, ℕ, ◌+◌, Bool, true, false, List, ◌++◌, length, refl, sym, ap, ◌∙◌, subst, arith}
 use Rattle.std.specs.Prelude.{Ok, Err}
-use Rattle.rpp_tree.specs.Tree.{Expression, Lvalue}
+use Rattle.register_expressions.specs.rpp_tree.Tree.{Expression, Lvalue}
 use Rattle.register_expressions.specs.pisa_isa.Machine.{Memory}
 use Rattle.register_expressions.specs.code_conventions.declared.registers.TheConstants.{OTHER_PLACE, PLACE, FRAME}
 use Rattle.register_expressions.specs.paired_code.declared.part.Symbol.{Symbol}

@@ -6,10 +6,10 @@ use Rattle.std.proofs.Common.{length-set, refl, sym, ap, ◌∙◌, subst, arith
 use Rattle.std.specs.Prelude.{true, slice_index, slice_set, Ok, Err}
 use Rattle.std.proofs.lemmas.List.{get_or-set_same, set-set}
 use Rattle.register_expressions.specs.rpp_words.Words.{sum_of, difference_of}
-use Rattle.rpp_tree.specs.declared.tree.UpdateOp.{UpdateOp}
-use Rattle.rpp_tree.specs.declared.tree.UpdateOp.TheVariants as update
-use Rattle.rpp_tree.specs.declared.tree.Ident.{Ident}
-use Rattle.rpp_tree.specs.Tree.{Expression, Number, Null, Variable, Element, Binary}
+use Rattle.register_expressions.specs.rpp_tree.declared.tree.UpdateOp.{UpdateOp}
+use Rattle.register_expressions.specs.rpp_tree.declared.tree.UpdateOp.TheVariants as update
+use Rattle.register_expressions.specs.rpp_tree.declared.tree.Ident.{Ident}
+use Rattle.register_expressions.specs.rpp_tree.Tree.{Expression, Number, Null, Variable, Element, Binary}
 use Rattle.std.specs.Prelude.{bit_xor}
 use Rattle.register_expressions.specs.pisa_isa.Machine.{Memory}
 use Rattle.register_expressions.specs.code_conventions.declared.registers.TheConstants.{CONTENT, FRAME, OBJECT}

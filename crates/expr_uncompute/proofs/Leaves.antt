@@ -6,8 +6,8 @@ use Rattle.std.specs.Int.Bits.{xor_self}
 use Rattle.std.proofs.lemmas.List.{get_or-set_same, get_or-set_other, set_comm, set-set}
 use Rattle.std.proofs.lemmas.Bool.{cases_eq}
 use Rattle.register_expressions.specs.rpp_words.Words.{sum_of, difference_of}
-use Rattle.rpp_tree.specs.declared.tree.UpdateOp.{UpdateOp}
-use Rattle.rpp_tree.specs.declared.tree.UpdateOp.TheVariants as update
+use Rattle.register_expressions.specs.rpp_tree.declared.tree.UpdateOp.{UpdateOp}
+use Rattle.register_expressions.specs.rpp_tree.declared.tree.UpdateOp.TheVariants as update
 use Rattle.register_expressions.specs.pisa_isa.Machine.{Memory}
 use Rattle.register_expressions.specs.code_conventions.declared.registers.TheConstants.{AMOUNT, CONTENT}
 use Rattle.register_expressions.specs.roopl_semantics.Operators.{updated}

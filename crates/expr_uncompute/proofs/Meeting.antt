@@ -2,7 +2,7 @@
 -- steps.
 use Rattle.std.proofs.Common.{◌≡◌, ℕ, ◌≤◌, Bool, List, refl, sym, ap, arith}
 use Rattle.std.specs.Prelude.{bit_xor, Result, Ok, Err}
-use Rattle.rpp_tree.specs.Tree.{Expression, Source, nodes}
+use Rattle.register_expressions.specs.rpp_tree.Tree.{Expression, Source, nodes}
 use Rattle.register_expressions.specs.pisa_isa.Machine.{Memory}
 use Rattle.register_expressions.specs.paired_code.declared.part.Symbol.{Symbol}
 use Rattle.register_expressions.specs.paired_code.Machine.{Image, memory_reg, memory_with_reg}

@@ -4,10 +4,10 @@ use Rattle.std.proofs.Common.{arith}
 use Rattle.std.specs.Prelude.{slice_index, slice_set, Result, Ok, Err}
 use Rattle.std.proofs.lemmas.List.{get_or-set_other, set_comm}
 use Rattle.register_expressions.specs.code_conventions.declared.memory.TheConstants.{HEADER_WORDS}
-use Rattle.rpp_tree.specs.declared.tree.BinOp.{BinOp}
-use Rattle.rpp_tree.specs.declared.tree.BinOp.TheVariants as op
-use Rattle.rpp_tree.specs.declared.tree.Ident.{Ident}
-use Rattle.rpp_tree.specs.Tree.{Expression, Element, Binary}
+use Rattle.register_expressions.specs.rpp_tree.declared.tree.BinOp.{BinOp}
+use Rattle.register_expressions.specs.rpp_tree.declared.tree.BinOp.TheVariants as op
+use Rattle.register_expressions.specs.rpp_tree.declared.tree.Ident.{Ident}
+use Rattle.register_expressions.specs.rpp_tree.Tree.{Expression, Element, Binary}
 use Rattle.register_expressions.specs.refine_form.declared.spot.Spot.{Spot}
 use Rattle.register_expressions.specs.refine_form.declared.spot.Spot.TheVariants.{Frame}
 use Rattle.register_expressions.specs.Code.{words, around, store_cells, operator_result}

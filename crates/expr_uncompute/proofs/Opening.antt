@@ -2,7 +2,7 @@
 use Rattle.std.proofs.Common.{◌≡◌, ◌≢◌, ℕ, ◌+◌, ◌^◌, ◌<◌, ◌≤◌, List, [], ◌∷◌, length, refl, sym, ap, ◌∙◌, subst, arith}
 use Rattle.std.specs.Prelude.{slice_index, slice_set, Result, Ok, Err}
 use Rattle.register_expressions.specs.code_conventions.declared.memory.TheConstants.{HEADER_WORDS}
-use Rattle.rpp_tree.specs.Tree.{Expression, Number, Null, Variable, Element, Binary}
+use Rattle.register_expressions.specs.rpp_tree.Tree.{Expression, Number, Null, Variable, Element, Binary}
 use Rattle.register_expressions.specs.paired_code.Machine.{memory_reg}
 use Rattle.register_expressions.specs.roopl_semantics.Operators.{operated}
 use Rattle.register_expressions.specs.refine_form.declared.spot.Spot.{Spot}
@@ -218,8 +218,8 @@ module _ (spot : List ℕ → Spot) (free : ℕ) (b : Bases) where
           ∙ ap (λ z. operated o z (word_given (number spot b zs right))) (sym ex) ∙ ap (operated o n.x) (sym ey) ∙ n.is
 
       -- an element that is not there
-      pub open_traps : (at : ℕ) (name : Rattle.rpp_tree.specs.declared.tree.Ident.Ident) (index : Expression)
-          (i x c : ℕ) (zs : List ℕ) → AllWords zs → Sees spot b low zs (Element name index)
+      pub open_traps : (at : ℕ) (name : Rattle.register_expressions.specs.rpp_tree.declared.tree.Ident.Ident)
+          (index : Expression) (i x c : ℕ) (zs : List ℕ) → AllWords zs → Sees spot b low zs (Element name index)
           → Room (Element name index) i zs → Parted zs (Element name index) i → number spot b zs index ≡ Ok x
           → number spot b zs (Element name index) ≡ Err c
           → Traps (checked_cells spot free name.text index (i + 1)) (checked_steps index) c (mem b f (keeping m p q) zs)

@@ -2,9 +2,9 @@
 use Rattle.std.proofs.Common.{◌≡◌, ℕ, ◌+◌, ◌^◌, ◌<◌, ◌≤◌, inl, inr, List, [], ◌∷◌, ◌++◌, length, refl, sym, ap, ◌∙◌}
 use Rattle.std.proofs.Common.{subst, arith, ⊎_elim}
 use Rattle.std.specs.Prelude.{slice_index, slice_set, Result, Ok, Err}
-use Rattle.rpp_tree.specs.declared.tree.BinOp.{BinOp}
-use Rattle.rpp_tree.specs.declared.tree.Ident.{Ident}
-use Rattle.rpp_tree.specs.Tree.{Expression, Number, Null, Variable, Element, Binary}
+use Rattle.register_expressions.specs.rpp_tree.declared.tree.BinOp.{BinOp}
+use Rattle.register_expressions.specs.rpp_tree.declared.tree.Ident.{Ident}
+use Rattle.register_expressions.specs.rpp_tree.Tree.{Expression, Number, Null, Variable, Element, Binary}
 use Rattle.register_expressions.specs.pisa_isa.Machine.{Memory}
 use Rattle.register_expressions.specs.code_conventions.declared.registers.TheConstants.{ITEM, RIGHT}
 use Rattle.register_expressions.specs.paired_code.Layout.{mirror_cells}

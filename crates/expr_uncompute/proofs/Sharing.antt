@@ -2,8 +2,8 @@
 -- the words of the memory.
 use Rattle.std.proofs.Common.{◌≡◌, ℕ, Bool, true, false, List, [], ◌∷◌, ◌++◌, refl, sym, ap, ◌∙◌}
 use Rattle.std.specs.Prelude.{nat_eq, ◌||◌}
-use Rattle.rpp_tree.specs.declared.tree.Ident.{Ident}
-use Rattle.rpp_tree.specs.Tree.{Expression, Number, Null, Variable, Element, Binary, Lvalue, Whole, Item, Source}
+use Rattle.register_expressions.specs.rpp_tree.declared.tree.Ident.{Ident}
+use Rattle.register_expressions.specs.rpp_tree.Tree.{Expression, Number, Null, Variable, Element, Binary, Lvalue, Whole, Item, Source}
 use Rattle.register_expressions.specs.roopl_semantics.Store.{State}
 use Rattle.register_expressions.specs.roopl_semantics.Value.{variable_value}
 use Rattle.register_expressions.specs.roopl_semantics.Elements.{elements, index_elements, own_element, same_array, is_among, share_array}

@@ -2,8 +2,8 @@
 -- memory and state gives.
 use Rattle.std.proofs.Common.{◌≡◌, ℕ, ◌+◌, Bool, true, false, List, sym, ap, ◌∙◌, subst}
 use Rattle.std.specs.Prelude.{slice_index, slice_set, Ok, Err}
-use Rattle.rpp_tree.specs.declared.tree.UpdateOp.{UpdateOp}
-use Rattle.rpp_tree.specs.Tree.{Expression, Number, Null, Variable, Element, Binary, Lvalue, Whole, Item, Source}
+use Rattle.register_expressions.specs.rpp_tree.declared.tree.UpdateOp.{UpdateOp}
+use Rattle.register_expressions.specs.rpp_tree.Tree.{Expression, Number, Null, Variable, Element, Binary, Lvalue, Whole, Item, Source}
 use Rattle.register_expressions.specs.pisa_isa.Machine.{Memory}
 use Rattle.register_expressions.specs.paired_code.Machine.{Image}
 use Rattle.register_expressions.specs.paired_code.Pieces.{Done, Runs}

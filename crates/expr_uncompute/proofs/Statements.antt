@@ -6,9 +6,9 @@ use Rattle.std.proofs.lemmas.List.{get_or-set_same, get_or-set_other, set_comm, 
 use Rattle.std.proofs.lemmas.Nat.{xor_lt}
 use Rattle.std.proofs.lemmas.Bool.{cases_eq}
 use Rattle.register_expressions.proofs.rpp_words_laws.Laws.{difference_of-sum_of, sum_of-difference_of, xor-twice}
-use Rattle.rpp_tree.specs.declared.tree.UpdateOp.{UpdateOp}
-use Rattle.rpp_tree.specs.declared.tree.UpdateOp.TheVariants as update
-use Rattle.rpp_tree.specs.Tree.{Expression, Lvalue, Whole, Item}
+use Rattle.register_expressions.specs.rpp_tree.declared.tree.UpdateOp.{UpdateOp}
+use Rattle.register_expressions.specs.rpp_tree.declared.tree.UpdateOp.TheVariants as update
+use Rattle.register_expressions.specs.rpp_tree.Tree.{Expression, Lvalue, Whole, Item}
 use Rattle.register_expressions.specs.inverse_rules.Inverse.{inverse_operator}
 use Rattle.register_expressions.specs.pisa_isa.Machine.{Memory}
 use Rattle.register_expressions.specs.paired_code.Machine.{Image, memory_reg}

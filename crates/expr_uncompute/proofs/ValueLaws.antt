@@ -2,9 +2,9 @@
 use Rattle.std.proofs.Common.{◌≡◌, ◌≢◌, ℕ, ◌+◌, List, [], ◌∷◌, ◌++◌, refl, ap, ◌∙◌, arith}
 use Rattle.std.specs.Prelude.{bit_xor, Ok, Err}
 use Rattle.register_expressions.proofs.rpp_words_laws.Laws.{xor-twice}
-use Rattle.rpp_tree.specs.declared.tree.BinOp.{BinOp}
-use Rattle.rpp_tree.specs.declared.tree.BinOp.TheVariants as op
-use Rattle.rpp_tree.specs.Tree.{Expression, Number, Null, Variable, Element, Binary}
+use Rattle.register_expressions.specs.rpp_tree.declared.tree.BinOp.{BinOp}
+use Rattle.register_expressions.specs.rpp_tree.declared.tree.BinOp.TheVariants as op
+use Rattle.register_expressions.specs.rpp_tree.Tree.{Expression, Number, Null, Variable, Element, Binary}
 use Rattle.register_expressions.specs.paired_code.Machine.{memory_reg}
 use Rattle.register_expressions.specs.paired_code.declared.part.Symbol.{Symbol}
 use Rattle.register_expressions.specs.roopl_semantics.Operators.{is_true, truth_word}

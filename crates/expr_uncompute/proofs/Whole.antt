@@ -3,7 +3,7 @@ use Rattle.std.proofs.Common.{◌≡◌, ℕ, ◌+◌, inl, inr, Bool, true, fal
 use Rattle.std.proofs.Common.{◌∙◌, subst}
 use Rattle.std.proofs.Common.{arith}
 use Rattle.std.specs.Prelude.{slice_index, bit_xor, if◌then◌else◌, Result, Ok, Err}
-use Rattle.rpp_tree.specs.Tree.{Expression}
+use Rattle.register_expressions.specs.rpp_tree.Tree.{Expression}
 use Rattle.register_expressions.specs.pisa_isa.Machine.{Memory}
 use Rattle.register_expressions.specs.code_conventions.declared.registers.TheConstants.{TRUTH, FRAME}
 use Rattle.register_expressions.specs.paired_code.Machine.{Image, memory_reg, memory_with_reg}

@@ -1,11 +1,11 @@
 -- The cells of values, conditions, updates and swaps, in their linear form.
 use Rattle.std.specs.Prelude.{ℕ, ◌+◌, nat_eq, Bool, ◌&&◌, not, if◌then◌else◌, List, [], ◌∷◌, ◌++◌}
 use Rattle.register_expressions.specs.rpp_words.Words.{difference_of}
-use Rattle.rpp_tree.specs.declared.tree.Ident.{Ident}
-use Rattle.rpp_tree.specs.declared.tree.UpdateOp.{UpdateOp}
-use Rattle.rpp_tree.specs.declared.tree.UpdateOp.TheVariants as update
-use Rattle.rpp_tree.specs.Tree.{Expression, Number, Null, Variable, Element, Binary, Lvalue, Whole}
-use Rattle.rpp_tree.specs.Tree.{Item}
+use Rattle.register_expressions.specs.rpp_tree.declared.tree.Ident.{Ident}
+use Rattle.register_expressions.specs.rpp_tree.declared.tree.UpdateOp.{UpdateOp}
+use Rattle.register_expressions.specs.rpp_tree.declared.tree.UpdateOp.TheVariants as update
+use Rattle.register_expressions.specs.rpp_tree.Tree.{Expression, Number, Null, Variable, Element, Binary, Lvalue, Whole}
+use Rattle.register_expressions.specs.rpp_tree.Tree.{Item}
 use Rattle.register_expressions.specs.code_conventions.declared.registers.TheConstants.{AMOUNT, CONTENT, FIRST_WORD}
 use Rattle.register_expressions.specs.code_conventions.declared.registers.TheConstants.{FRAME, ITEM, LEFT, OBJECT}
 use Rattle.register_expressions.specs.code_conventions.declared.registers.TheConstants.{OTHER_PLACE, PLACE, RIGHT}

@@ -2,7 +2,7 @@
 -- the whole fragment.
 use Rattle.std.specs.Prelude.{◌≡◌, ℕ, ◌+◌, ◌^◌, ◌<◌, ◌≤◌, Bool, true, false, List, length}
 use Rattle.std.specs.Prelude.{slice_index, Ok, Err}
-use Rattle.rpp_tree.specs.Tree.{Expression, Null, Lvalue}
+use Rattle.register_expressions.specs.rpp_tree.Tree.{Expression, Null, Lvalue}
 use Rattle.register_expressions.specs.pisa_isa.Machine.{Memory}
 use Rattle.register_expressions.specs.code_conventions.declared.registers.TheConstants.{AMOUNT, OTHER_PLACE, PLACE}
 use Rattle.register_expressions.specs.paired_code.declared.part.Symbol.{Symbol}

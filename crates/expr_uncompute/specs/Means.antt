@@ -1,10 +1,10 @@
 -- How the words of a memory represent the values of the source that an expression reads.
 use Rattle.std.specs.Prelude.{◌≡◌, ◌≢◌, ℕ, ◌+◌, ◌<◌, nat_eq, Bool, true, false, List, length}
 use Rattle.std.specs.Prelude.{slice_index, Result, Ok, Err}
-use Rattle.rpp_tree.specs.declared.tree.BinOp.{BinOp}
-use Rattle.rpp_tree.specs.declared.tree.BinOp.TheVariants as op
-use Rattle.rpp_tree.specs.Tree.{Expression, Number, Null, Variable, Element, Binary, Lvalue, Whole}
-use Rattle.rpp_tree.specs.Tree.{Item, Source}
+use Rattle.register_expressions.specs.rpp_tree.declared.tree.BinOp.{BinOp}
+use Rattle.register_expressions.specs.rpp_tree.declared.tree.BinOp.TheVariants as op
+use Rattle.register_expressions.specs.rpp_tree.Tree.{Expression, Number, Null, Variable, Element, Binary, Lvalue, Whole}
+use Rattle.register_expressions.specs.rpp_tree.Tree.{Item, Source}
 use Rattle.register_expressions.specs.code_conventions.declared.memory.TheConstants.{HEADER_WORDS}
 use Rattle.register_expressions.specs.roopl_semantics.Store.{Value, Word, Nil, Name, State, number_of, same_value}
 use Rattle.register_expressions.specs.roopl_semantics.Store.{object_at}

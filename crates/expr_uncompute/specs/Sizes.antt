@@ -1,6 +1,6 @@
 -- How many cells code has at most.
 use Rattle.std.specs.Prelude.{ℕ, ◌+◌, ◌*◌}
-use Rattle.rpp_tree.specs.Tree.{Lvalue, Whole, Item}
+use Rattle.register_expressions.specs.rpp_tree.Tree.{Lvalue, Whole, Item}
 use Rattle.expr_uncompute.specs.Steps.{place_tokens}
 
 -- a swap: if the left place is a variable, no array is compared for it

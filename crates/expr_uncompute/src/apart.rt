@@ -1,21 +1,18 @@
 // The check that a place that changes is an element of no array of which an element is read.
 ghost use Rattle.std.specs.Prelude.{◌≡◌, ◌<◌, ◌^◌, IfOk};
-ghost use Rattle.rpp_tree.specs.Tree.{Null};
-ghost use Rattle.rpp_tree.specs.Views.{expression_of, lvalue_of};
+ghost use Rattle.register_expressions.specs.rpp_tree.Tree.{Null};
+ghost use Rattle.register_expressions.specs.rpp_tree.Views.{expression_of, lvalue_of};
 ghost use Rattle.register_expressions.specs.paired_code.Code.{unmarked};
 ghost use Rattle.expr_uncompute.specs.Code.{compare_cells, compare_all as cells_of_all, apart_cells, both_apart_cells};
 ghost use Rattle.register_expressions.specs.code_scope.Visible.{offset_of, spot_of as spot_of_name, known_by};
 ghost use Rattle.register_expressions.specs.Number.{lvalue_read, index_of};
 
-use code_conventions::faults::SHARED_ARRAY;
-use code_conventions::registers::{CONTENT, LEFT};
-use code_scope::{Names, spot_of};
-use paired_code::{Piece, check_differ, empty, seq};
-use refine_form::Spot;
 use register_expressions::cells::enclosed;
+use register_expressions::faults::SHARED_ARRAY;
+use register_expressions::registers::{CONTENT, LEFT};
 use register_expressions::rows::{copy, reached};
-use rpp_tree::tree::{Expr, Place};
-use rpp_words::NoMemory;
+use register_expressions::tree::Place;
+use register_expressions::{Expr, Names, NoMemory, Piece, Spot, check_differ, empty, seq, spot_of};
 use std::alloc::Global;
 
 // Fault 16 if the words of two storage slots are the same.

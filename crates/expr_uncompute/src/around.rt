@@ -1,7 +1,7 @@
 // Places and values found around any middle, by what it does.
 ghost use Rattle.std.specs.Prelude.{◌≡◌, ◌≤◌, ◌+◌, ◌*◌, [], ◌++◌, length, IfOk};
-ghost use Rattle.rpp_tree.specs.Tree.{nodes, index_nodes};
-ghost use Rattle.rpp_tree.specs.Views.{expression_of, lvalue_of};
+ghost use Rattle.register_expressions.specs.rpp_tree.Tree.{nodes, index_nodes};
+ghost use Rattle.register_expressions.specs.rpp_tree.Views.{expression_of, lvalue_of};
 ghost use Rattle.register_expressions.specs.roopl_semantics.Elements.{elements, index_elements, own_element, read_cost};
 ghost use Rattle.register_expressions.specs.Code.{words as words_of};
 ghost use Rattle.expr_uncompute.specs.Code.{place_words as words_of_place};
@@ -11,11 +11,9 @@ ghost use Rattle.expr_uncompute.specs.Steps.{place_tokens};
 ghost use Rattle.register_expressions.specs.code_scope.Visible.{spot_of, free_words_of, known_in};
 
 use crate::middles::{around_place, around_places, around_value};
-use code_conventions::memory::EXPRESSION_WORDS;
-use code_scope::Scope;
-use paired_code::Piece;
-use rpp_tree::tree::{Expr, Place};
-use rpp_words::NoMemory;
+use register_expressions::memory::EXPRESSION_WORDS;
+use register_expressions::tree::Place;
+use register_expressions::{Expr, NoMemory, Piece, Scope};
 use std::alloc::Global;
 
 /// A middle that changes a place, in both directions: before it the address of the place goes into

@@ -1,7 +1,7 @@
 // The code of expressions, updates and swaps, by what it does.
 ghost use Rattle.std.specs.Prelude.{◌≡◌, ◌≤◌, ◌+◌, ◌*◌, [], ◌++◌, length, IfOk};
-ghost use Rattle.rpp_tree.specs.Tree.{nodes, index_nodes};
-ghost use Rattle.rpp_tree.specs.Views.{expression_of, lvalue_of};
+ghost use Rattle.register_expressions.specs.rpp_tree.Tree.{nodes, index_nodes};
+ghost use Rattle.register_expressions.specs.rpp_tree.Views.{expression_of, lvalue_of};
 ghost use Rattle.register_expressions.specs.roopl_semantics.Elements.{elements, index_elements, own_element, read_cost};
 ghost use Rattle.register_expressions.specs.Code.{Target, words as words_of};
 ghost use Rattle.expr_uncompute.specs.Code.{place_words as words_of_place};
@@ -13,11 +13,9 @@ ghost use Rattle.register_expressions.specs.code_scope.Visible.{spot_of, free_wo
 
 use crate::places::{swap_piece, update_piece};
 use crate::values::{test_piece, value_piece};
-use code_conventions::memory::EXPRESSION_WORDS;
-use code_scope::Scope;
-use paired_code::Piece;
-use rpp_tree::tree::{Expr, Place, UpdateOp};
-use rpp_words::NoMemory;
+use register_expressions::memory::EXPRESSION_WORDS;
+use register_expressions::tree::{Place, UpdateOp};
+use register_expressions::{Expr, NoMemory, Piece, Scope};
 use std::alloc::Global;
 
 /// The value of an expression xored into the register `into`, in both directions, or a stop with

@@ -1,6 +1,6 @@
 // Lvalues and values found: what is in the registers while a statement changes an lvalue.
 ghost use Rattle.std.specs.Prelude.{◌≡◌, ◌<◌, ◌≤◌, ◌+◌, ◌^◌, [], ◌∷◌, ◌++◌, IfOk};
-ghost use Rattle.rpp_tree.specs.Views.{expression_of, lvalue_of};
+ghost use Rattle.register_expressions.specs.rpp_tree.Views.{expression_of, lvalue_of};
 ghost use Rattle.register_expressions.specs.paired_code.Code.{unmarked};
 ghost use Rattle.register_expressions.specs.Code.{xor as xor_cell, addi as addi_cell, base_of, words as words_of};
 ghost use Rattle.expr_uncompute.specs.Code.{place_words as words_of_place, fetch_cells, place_cells, found_place_cells, found_value_cells, found_places_cells};
@@ -8,15 +8,12 @@ ghost use Rattle.register_expressions.specs.code_scope.Visible.{offset_of, spot_
 
 use crate::apart::{apart, apart_from, own_apart};
 use crate::values::{checked, open, parts, place_words, prepare, result_register};
-use code_conventions::memory::EXPRESSION_WORDS;
-use code_conventions::registers::{AMOUNT, FRAME, OTHER_PLACE, PLACE, RIGHT};
-use code_scope::{Names, spot_of};
-use paired_code::{Piece, seq};
-use refine_form::Spot;
 use register_expressions::cells::{addi, enclosed, xor};
+use register_expressions::memory::EXPRESSION_WORDS;
+use register_expressions::registers::{AMOUNT, FRAME, OTHER_PLACE, PLACE, RIGHT};
 use register_expressions::rows::{base, offset, point};
-use rpp_tree::tree::{Expr, Place};
-use rpp_words::NoMemory;
+use register_expressions::tree::Place;
+use register_expressions::{Expr, Names, NoMemory, Piece, Spot, seq, spot_of};
 use std::alloc::Global;
 
 fn spot_address(alloc: Global, spot: Spot, into: u8) -> Result<Piece, NoMemory>

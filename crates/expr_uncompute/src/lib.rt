@@ -14,5 +14,11 @@ mod places;
 mod values;
 
 pub use around::{place_and_value_around, place_around, places_around};
-pub use code_scope::{Scope, Spot};
 pub use expressions::{swap_code, test_code, update_code, value_code};
+pub use register_expressions::{
+    Piece, Scope, Spot, check_differ, check_equal, check_positive, empty, enter, mirror, plain,
+    seq, spot_of, turn_while,
+};
+
+/// An alias hands on this enum, which contains itself: Rattle does not find one that is handed on by `pub use`.
+pub type Expr = register_expressions::Expr;

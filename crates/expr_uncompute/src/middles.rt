@@ -1,6 +1,6 @@
 // Places and values found around any middle.
 ghost use Rattle.std.specs.Prelude.{◌≡◌, ◌≤◌, ◌+◌, ◌*◌, [], length, IfOk};
-ghost use Rattle.rpp_tree.specs.Views.{expression_of, lvalue_of};
+ghost use Rattle.register_expressions.specs.rpp_tree.Views.{expression_of, lvalue_of};
 ghost use Rattle.register_expressions.specs.paired_code.Code.{unmarked};
 ghost use Rattle.register_expressions.specs.Code.{around, words as words_of};
 ghost use Rattle.expr_uncompute.specs.Code.{place_words as words_of_place, found_place_cells, found_value_cells, found_places_cells};
@@ -10,12 +10,10 @@ ghost use Rattle.expr_uncompute.specs.Steps.{place_tokens};
 ghost use Rattle.register_expressions.specs.code_scope.Visible.{spot_of as spot_of_name, free_words_of, known_by};
 
 use crate::found::{found_place, found_places, found_value};
-use code_conventions::memory::EXPRESSION_WORDS;
-use code_scope::Names;
-use paired_code::Piece;
 use register_expressions::cells::enclosed;
-use rpp_tree::tree::{Expr, Place};
-use rpp_words::NoMemory;
+use register_expressions::memory::EXPRESSION_WORDS;
+use register_expressions::tree::Place;
+use register_expressions::{Expr, Names, NoMemory, Piece};
 use std::alloc::Global;
 
 /// A place found around a middle.

@@ -1,7 +1,7 @@
 // The code of updates and swaps.
 ghost use Rattle.std.specs.Prelude.{◌≡◌, ◌≢◌, ◌<◌, ◌≤◌, ◌+◌, ◌*◌, ◌^◌, [], ◌∷◌, ◌++◌, length, IfOk};
-ghost use Rattle.rpp_tree.specs.Tree.{Whole, Item};
-ghost use Rattle.rpp_tree.specs.Views.{expression_of, lvalue_of};
+ghost use Rattle.register_expressions.specs.rpp_tree.Tree.{Whole, Item};
+ghost use Rattle.register_expressions.specs.rpp_tree.Views.{expression_of, lvalue_of};
 ghost use Rattle.register_expressions.specs.paired_code.Code.{unmarked};
 ghost use Rattle.register_expressions.specs.Code.{words as words_of, around, reach_cells, base_of, addi as addi_cell};
 ghost use Rattle.expr_uncompute.specs.Code.{place_words as words_of_place, update_cell as cell_of_update, number_cell as cell_of_number, onward_cell as onward_cell, from_object as onward_from_object, from_frame as onward_from_frame_cell, both_reached as both_reached_cells, found_update_cells, held_update_cells, operated_update_cells, whole_update_cells, near_middle as near_middle_cells, near_place_cells, near_update_cells, item_update_cells, update_cells, four_exchanges as four_of, swap_at as swap_at_cells, beyond_cells as beyond_cells, swap_by_one as swap_by_one_cells, have_one_base as one_base, swap_spots as swap_spots_cells, found_swap_cells, near_swap_cells, whole_swap_cells, item_swap_cells, swap_cells};
@@ -16,21 +16,17 @@ ghost use Rattle.register_expressions.specs.code_scope.Visible.{offset_of, spot_
 use crate::apart::both_apart;
 use crate::found::{both_places, found_value};
 use crate::values::{checked, prepare};
-use code_conventions::memory::EXPRESSION_WORDS;
-use code_conventions::registers::{
-    AMOUNT, CONTENT, FIRST_WORD, FRAME, LEFT, OBJECT, OTHER_PLACE, PLACE, RIGHT, SECOND_WORD,
-};
-use code_scope::{Names, spot_of};
-use paired_code::{Piece, seq};
-use refine_form::Spot;
 use register_expressions::cells::{add, addi, enclosed, exch, sub, xor, xori};
 use register_expressions::held::{
     held, held_place, is_near, is_near_index, is_opened_once, need, part,
 };
+use register_expressions::memory::EXPRESSION_WORDS;
+use register_expressions::registers::{
+    AMOUNT, CONTENT, FIRST_WORD, FRAME, LEFT, OBJECT, OTHER_PLACE, PLACE, RIGHT, SECOND_WORD,
+};
 use register_expressions::rows::{base, offset, point, reached};
-use rpp_tree::Text;
-use rpp_tree::tree::{Expr, Place, UpdateOp};
-use rpp_words::{NoMemory, wrap_sub};
+use register_expressions::tree::{Place, UpdateOp};
+use register_expressions::{Expr, Names, NoMemory, Piece, Spot, Text, seq, spot_of, wrap_sub};
 use std::alloc::Global;
 
 // The word that is out updated by a register.

@@ -1,6 +1,6 @@
 // The code of values.
 ghost use Rattle.std.specs.Prelude.{◌≡◌, ◌≢◌, ◌<◌, ◌≤◌, ◌⊎◌, ◌+◌, ◌*◌, ◌++◌, length, IfOk};
-ghost use Rattle.rpp_tree.specs.Views.{expression_of, lvalue_of};
+ghost use Rattle.register_expressions.specs.rpp_tree.Views.{expression_of, lvalue_of};
 ghost use Rattle.register_expressions.specs.paired_code.Code.{unmarked};
 ghost use Rattle.register_expressions.specs.Code.{Target, words as words_of, copy_cells, nil_check as nil_cells, index_check as index_cells};
 ghost use Rattle.expr_uncompute.specs.Code.{place_words as words_of_place, operand_cells, checked_cells as checked_of, open_cells, prepare_cells, parts_cells, prepared_value_cells, prepared_test_cells, value_cells, test_cells, result_of};
@@ -9,19 +9,17 @@ ghost use Rattle.expr_uncompute.specs.Promises.{ExpressionLaw, ConditionLaw};
 ghost use Rattle.register_expressions.specs.Steps.{token_count};
 ghost use Rattle.register_expressions.specs.code_scope.Visible.{spot_of as spot_of_name, free_words_of, known_by};
 
-use code_conventions::memory::EXPRESSION_WORDS;
-use code_conventions::registers::{CONTENT, ITEM, LEFT, RIGHT, TRUTH};
-use code_scope::{Names, free_word, spot_of};
-use paired_code::{Piece, empty, seq};
-use refine_form::Spot;
 use register_expressions::cells::{enclosed, exch, xor, xori};
 use register_expressions::held::{held_test, held_value, is_held};
+use register_expressions::memory::EXPRESSION_WORDS;
+use register_expressions::registers::{CONTENT, ITEM, LEFT, RIGHT, TRUTH};
 use register_expressions::rows::{
     copy, index_check, nil_check, operator, operator_register, point, reached, store, truth,
 };
-use rpp_tree::Text;
-use rpp_tree::tree::{Expr, Place};
-use rpp_words::NoMemory;
+use register_expressions::tree::Place;
+use register_expressions::{
+    Expr, Names, NoMemory, Piece, Spot, Text, empty, free_word, seq, spot_of,
+};
 use std::alloc::Global;
 
 /// How many words of the frame an expression needs.

@@ -3,7 +3,7 @@ use Rattle.std.proofs.Common.{◌≡◌, ℕ, ◌+◌, List, Ok, Err, sym, subst
 use Rattle.std.specs.Prelude.{Result, IfOk, IfErr, OnOk, ◌⊎◌}
 use Rattle.command_plan.specs.rpp_words.declared.input.Limits.{Limits}
 use Rattle.image_inverter.specs.pisa_isa.Image.{Segments}
-use Rattle.pisa_scripts.specs.declared.command.Command.{Command}
+use Rattle.debugger_scripts.specs.pisa_scripts.declared.command.Command.{Command}
 use Rattle.debugger_scripts.specs.declared.error.ScriptError.{ScriptError}
 use Rattle.two_way_debugger.specs.Shown.{spent_in}
 use Rattle.command_plan.specs.declared.plan.Plan.{Plan}

@@ -12,19 +12,14 @@ ghost use Rattle.command_plan.specs.Plans.{planned, GivesPlan};
 ghost use Rattle.image_commands.specs.DebugPlans.{start_position, followed, IsScriptPlan, IsRoomPlan, IsDebugPlan, DebugsFile, MovesSome, IsScriptShort, IsRoomShort, IsDebugShort, DebugsFileShort};
 
 use command_plan::{
-    MOST_IMAGE, NoPlan, Plan, Room, Verdict, bad_command_line, image_line, load_line, read_both,
+    ImageError, MOST_IMAGE, NoPlan, Plan, Room, Shelf, Verdict, bad_command_line, check_limits,
+    image_line, load, load_line, read_both, read_image,
 };
-use debugger_scripts::{ScriptError, read_script};
-use pisa_image::{ImageError, read_image};
-use pisa_isa::Image;
-use pisa_loader::{check_limits, load};
-use pisa_machine::{Machine, Steps};
-use pisa_scripts::{Command, MOST_SCRIPT};
-use rpp_ports::Shelf;
-use rpp_words::{Input, Limits, MOST_DEEP, NoMemory};
+use debugger_scripts::{Command, MOST_SCRIPT, ScriptError, read_script};
+use image_inverter::{Image, Input, Limits, MOST_DEEP, NoMemory};
 use std::alloc::Global;
 use std::sync::ledger::Ledger;
-use two_way_debugger::Debugger;
+use two_way_debugger::{Debugger, Machine, Steps};
 
 /// Follows the script in a file along the run of the image in a file, from the loaded memory on,
 /// and reports what its commands print. It makes the steps of their moves and no others, and none

@@ -10,13 +10,10 @@ ghost use Rattle.command_plan.specs.declared.reading.TheConstants.{MOST_IMAGE};
 ghost use Rattle.command_plan.specs.Files.{OnlyReads, assembly, image_file};
 
 use command_plan::{
-    MOST_IMAGE, NoPlan, Plan, Verdict, asm_line, cells_line, image_line, read_file, write_as,
+    AsmError, ImageError, MOST_IMAGE, MOST_TEXT, NoPlan, Plan, Shelf, Verdict, asm_line, assemble,
+    cells_line, image_line, read_file, read_image, write_as, write_image,
 };
-use pisa_asm::{AsmError, MOST_TEXT, assemble};
-use pisa_image::{ImageError, read_image, write_image};
-use pisa_isa::Noted;
-use rpp_ports::Shelf;
-use rpp_words::NoMemory;
+use image_inverter::{NoMemory, Noted};
 use std::alloc::Global;
 
 /// Assembles the text in a file into an image file.
@@ -63,7 +60,7 @@ fn list_bytes(alloc: Global, bytes: &[u8], name: &str) -> Result<Plan, NoMemory>
 fn write_listing(alloc: Global, noted: &Noted, name: &str) -> Result<Plan, NoMemory>
     ensures { IfOk result (λ plan. IsListPlan (Ok noted.now) name.now (planned plan)) }
 {
-    let listing = pisa_asm::list(alloc, noted)?;
+    let listing = command_plan::list(alloc, noted)?;
     let text = cells_line(alloc, "listed", noted.image().code())?;
     Ok(Plan::writes(String::from_str(alloc, name)?, listing.into_bytes(), text))
 }

@@ -10,3 +10,4 @@ mod running;
 pub use debugging::debug;
 pub use images::{asm, flip, list};
 pub use running::run;
+pub use two_way_debugger::{Coverage, Debugger, DeepestPlace, Machine, Probe, StepTally, Steps};

@@ -4,10 +4,10 @@ ghost use Rattle.std.specs.Str.{IsAscii};
 ghost use Rattle.image_inverter.specs.pisa_isa.Notes.{HasAsciiText};
 ghost use Rattle.image_commands.specs.RunTexts.{holds_place, narrower as narrower_of, narrowed as narrowed_of, narrowest as narrowest_of, width as width_of, from_line, name_line, name_lines, place_lines, end_lines as lines_of_end};
 
-use pisa_isa::{Core, FieldName, Mark, Notes};
-use pisa_machine::{Machine, RunEnd, word_at};
-use pisa_scripts::{add_registers, add_stop, direction};
+use debugger_scripts::{add_registers, add_stop, direction};
+use image_inverter::{Core, FieldName, Mark, Notes};
 use std::alloc::{AllocError, Global};
+use two_way_debugger::{Machine, RunEnd, word_at};
 
 /// What is printed of a run: the stop reason, the steps, the code address, and its debug
 /// information.

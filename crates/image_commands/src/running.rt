@@ -13,16 +13,13 @@ ghost use Rattle.image_commands.specs.ImagePlans.{position_at_start, saved as sa
 
 use crate::run_texts::end_lines;
 use command_plan::{
-    NoPlan, Plan, Sizes, StateNames, Verdict, Writing, image_line, load_line, read_images,
+    ImageError, LoadError, NoPlan, Plan, Shelf, Sizes, StateNames, Verdict, Writing, check_limits,
+    image_line, load, load_line, load_state, read_image, read_images, save_state,
 };
-use pisa_image::{ImageError, read_image};
-use pisa_isa::{Image, Noted, Notes, Stop};
-use pisa_loader::{LoadError, check_limits, load, load_state, save_state};
-use pisa_machine::{Machine, RunEnd, Steps};
-use rpp_ports::Shelf;
-use rpp_words::{Input, Limits, MOST_DEEP, NoMemory};
+use image_inverter::{Image, Input, Limits, MOST_DEEP, NoMemory, Noted, Notes, Stop};
 use std::alloc::Global;
 use std::sync::ledger::Ledger;
+use two_way_debugger::{Machine, RunEnd, Steps};
 
 /// Runs the image in a file, from the loaded memory or from a state, and reports its end. It makes
 /// the steps of that run and no others, and none if a file cannot be read.

@@ -4,8 +4,7 @@ ghost use Rattle.pisa_isa.specs.Table.{inverse_of};
 ghost use Rattle.pisa_isa.specs.Flipped.{flipped_image};
 ghost use Rattle.image_inverter.specs.Leading.{LeadsBack};
 
-use pisa_isa::{Cell, Image};
-use rpp_words::NoMemory;
+use pisa_isa::{Cell, Image, NoMemory};
 use std::alloc::{AllocError, Global};
 
 /// The inverse image: the code in reverse order, each cell replaced by its inverse, with the same

@@ -6,3 +6,8 @@
 mod inverter;
 
 pub use inverter::flip;
+pub use pisa_isa::{
+    Cell, Core, END_CELL, FieldName, Image, Input, LAST_PLACE, Limits, MOST_CELLS, MOST_DEEP,
+    MOST_MARKS, MOST_NAME_BYTES, MOST_NAMES, MOST_STATICS, Mark, NoMemory, Noted, Notes, Op, ROWS,
+    Stop, wrap_sub,
+};

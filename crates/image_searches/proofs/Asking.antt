@@ -1,8 +1,8 @@
 -- Moves that are asked for.
 use Rattle.std.proofs.Common.{◌≡◌, ◌∙◌, sym, ap, subst, ℕ, List, Result}
 use Rattle.std.specs.Prelude.{IfOk, string_bytes}
-use Rattle.pisa_scripts.specs.declared.command.Command.{Command}
-use Rattle.two_way_debugger.specs.pisa_machine.Position.{Position}
+use Rattle.live_requests.specs.pisa_scripts.declared.command.Command.{Command}
+use Rattle.live_requests.specs.pisa_machine.Position.{Position}
 use Rattle.live_requests.specs.declared.asks.Ask.{Ask}
 use Rattle.live_requests.specs.declared.asks.Goal.{Goal}
 use Rattle.live_requests.specs.declared.asks.Goal.TheVariants.{Points}

@@ -1,8 +1,8 @@
 -- Searches of more moves.
 use Rattle.std.proofs.Common.{◌≡◌, refl, ℕ, zero, suc, ◌+◌, add-zero, add-suc, Bool, true, false}
 use Rattle.std.specs.Prelude.{if◌then◌else◌}
-use Rattle.pisa_scripts.specs.declared.command.Command.{Command}
-use Rattle.two_way_debugger.specs.pisa_machine.Position.{Position}
+use Rattle.live_requests.specs.pisa_scripts.declared.command.Command.{Command}
+use Rattle.live_requests.specs.pisa_machine.Position.{Position}
 use Rattle.image_searches.specs.declared.moves.Outcome.TheVariants.{Met, Stopped}
 use Rattle.image_searches.specs.Steps.{led_to, is_stuck}
 use Rattle.image_searches.specs.Searches.{ImageFound, image_found, image_seek}

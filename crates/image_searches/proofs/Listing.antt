@@ -2,9 +2,9 @@
 use Rattle.std.proofs.Common.{◌≡◌, ◌∙◌, sym, ap, refl, ℕ, suc, ◌+◌, ◌-◌, ◌<◌, ◌≤◌, List, [], ◌++◌, Bool, false}
 use Rattle.std.proofs.Common.{true, append-nil, append_assoc}
 use Rattle.std.specs.Prelude.{if◌then◌else◌}
-use Rattle.pisa_scripts.specs.declared.command.Command.{Command}
-use Rattle.two_way_debugger.specs.pisa_machine.Position.{Position}
-use Rattle.two_way_debugger.specs.Shown.{text_of}
+use Rattle.live_requests.specs.pisa_scripts.declared.command.Command.{Command}
+use Rattle.live_requests.specs.pisa_machine.Position.{Position}
+use Rattle.live_requests.specs.two_way_debugger.Shown.{text_of}
 use Rattle.image_searches.specs.declared.moves.Outcome.{Outcome}
 use Rattle.image_searches.specs.declared.moves.Outcome.TheVariants.{Made, Stopped}
 use Rattle.image_searches.specs.declared.moves.Step.TheVariants.{Gone, Stuck}

@@ -1,8 +1,8 @@
 -- Some moves.
 use Rattle.std.proofs.Common.{◌≡◌, ◌∙◌, ap, ℕ, suc, ◌+◌, ◌<◌}
 use Rattle.std.proofs.Common.{arith}
-use Rattle.pisa_scripts.specs.declared.command.Command.{Command}
-use Rattle.two_way_debugger.specs.pisa_machine.Position.{Position}
+use Rattle.live_requests.specs.pisa_scripts.declared.command.Command.{Command}
+use Rattle.live_requests.specs.pisa_machine.Position.{Position}
 use Rattle.image_searches.specs.Steps.{led_to, led_by, ImageMovesSome}
 
 one_more : (i : ℕ) → suc i ≡ i + 1

@@ -2,10 +2,10 @@
 use Rattle.std.proofs.Common.{◌≡◌, ◌∙◌, sym, ap, subst, refl, ℕ, suc, ◌+◌, ◌-◌, ◌<◌, ◌≤◌, List, [], ◌++◌, Bool, true}
 use Rattle.std.proofs.Common.{false, Result, Ok, Err}
 use Rattle.std.specs.Prelude.{if◌then◌else◌, IfOk, string_bytes}
-use Rattle.pisa_scripts.specs.declared.command.Command.{Command}
-use Rattle.pisa_scripts.specs.declared.command.Command.TheVariants as command
-use Rattle.two_way_debugger.specs.pisa_machine.Position.{Position}
-use Rattle.two_way_debugger.specs.Shown.{text_of}
+use Rattle.live_requests.specs.pisa_scripts.declared.command.Command.{Command}
+use Rattle.live_requests.specs.pisa_scripts.declared.command.Command.TheVariants as command
+use Rattle.live_requests.specs.pisa_machine.Position.{Position}
+use Rattle.live_requests.specs.two_way_debugger.Shown.{text_of}
 use Rattle.image_searches.specs.declared.moves.Moved.{Moved}
 use Rattle.image_searches.specs.declared.moves.Outcome.TheVariants.{Met, Made, Stopped}
 use Rattle.image_searches.specs.declared.moves.Step.TheVariants.{Gone, Stuck}

@@ -3,8 +3,8 @@ use Rattle.std.specs.Prelude.{ℕ, ℤ, pos, Bool, true, false, not, ◌||◌, n
 use Rattle.std.specs.Prelude.{List, [], ◌∷◌, Option, Some, None, slice_get, is_some}
 use Rattle.std.specs.List.{list_any}
 use Rattle.std.specs.Ordering.{int_eq}
-use Rattle.two_way_debugger.specs.pisa_machine.Position.{Position}
-use Rattle.two_way_debugger.specs.pisa_scripts.Lines.{number_up_to, short_number}
+use Rattle.live_requests.specs.pisa_machine.Position.{Position}
+use Rattle.live_requests.specs.pisa_scripts.Lines.{number_up_to, short_number}
 use Rattle.live_requests.specs.declared.asks.Goal.{Goal}
 use Rattle.live_requests.specs.declared.asks.Goal.TheVariants as goal
 use Rattle.image_searches.specs.declared.watches.Watch.{Watch}

@@ -1,7 +1,7 @@
 -- What moves that are asked for come to.
 use Rattle.std.specs.Prelude.{ℕ, List}
-use Rattle.pisa_scripts.specs.declared.command.Command.{Command}
-use Rattle.two_way_debugger.specs.pisa_machine.Position.{Position}
+use Rattle.live_requests.specs.pisa_scripts.declared.command.Command.{Command}
+use Rattle.live_requests.specs.pisa_machine.Position.{Position}
 use Rattle.live_requests.specs.declared.asks.Ask.{Ask}
 use Rattle.live_requests.specs.declared.asks.Goal.{Goal}
 use Rattle.live_requests.specs.declared.asks.Goal.TheVariants.{Points}

@@ -1,7 +1,7 @@
 -- A law of searches.
 use Rattle.std.specs.Prelude.{◌≡◌, ℕ, ◌+◌, Bool}
-use Rattle.pisa_scripts.specs.declared.command.Command.{Command}
-use Rattle.two_way_debugger.specs.pisa_machine.Position.{Position}
+use Rattle.live_requests.specs.pisa_scripts.declared.command.Command.{Command}
+use Rattle.live_requests.specs.pisa_machine.Position.{Position}
 use Rattle.image_searches.specs.declared.moves.Outcome.{Outcome}
 use Rattle.image_searches.specs.declared.moves.Outcome.TheVariants.{Met, Made, Stopped}
 use Rattle.image_searches.specs.Searches.{ImageFound, image_seek}

@@ -1,9 +1,9 @@
 -- Moves one by one: where they lead, and what they print.
 use Rattle.std.specs.Prelude.{ℕ, zero, suc, Bool, if◌then◌else◌, List, [], ◌++◌}
-use Rattle.pisa_scripts.specs.declared.command.Command.{Command}
-use Rattle.pisa_scripts.specs.declared.command.Command.TheVariants as command
-use Rattle.two_way_debugger.specs.pisa_machine.Position.{Position}
-use Rattle.two_way_debugger.specs.Shown.{text_of}
+use Rattle.live_requests.specs.pisa_scripts.declared.command.Command.{Command}
+use Rattle.live_requests.specs.pisa_scripts.declared.command.Command.TheVariants as command
+use Rattle.live_requests.specs.pisa_machine.Position.{Position}
+use Rattle.live_requests.specs.two_way_debugger.Shown.{text_of}
 use Rattle.image_searches.specs.declared.moves.Outcome.{Outcome}
 use Rattle.image_searches.specs.declared.moves.Outcome.TheVariants.{Met, Made, Stopped}
 use Rattle.image_searches.specs.Steps.{led_to, is_stuck}

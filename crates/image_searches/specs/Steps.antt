@@ -1,10 +1,10 @@
 -- Single moves along the positions of a machine.
 use Rattle.std.specs.Prelude.{◌≡◌, ℕ, zero, suc, ◌≤◌, Bool, true, false, nat_eq}
 use Rattle.std.specs.Prelude.{List, ◌++◌, ⊤}
-use Rattle.pisa_scripts.specs.declared.command.Command.{Command}
-use Rattle.pisa_scripts.specs.declared.command.Command.TheVariants as command
-use Rattle.two_way_debugger.specs.pisa_machine.Position.{Position}
-use Rattle.two_way_debugger.specs.Shown.{walk_of, text_of}
+use Rattle.live_requests.specs.pisa_scripts.declared.command.Command.{Command}
+use Rattle.live_requests.specs.pisa_scripts.declared.command.Command.TheVariants as command
+use Rattle.live_requests.specs.pisa_machine.Position.{Position}
+use Rattle.live_requests.specs.two_way_debugger.Shown.{walk_of, text_of}
 use Rattle.image_searches.specs.declared.moves.Step.{Step}
 use Rattle.image_searches.specs.declared.moves.Step.TheVariants.{Gone, Stuck, Lost}
 

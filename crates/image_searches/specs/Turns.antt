@@ -1,7 +1,7 @@
 -- What one move of a search comes to.
 use Rattle.std.specs.Prelude.{◌≡◌, ℕ, Bool, if◌then◌else◌, List, ⊤}
-use Rattle.pisa_scripts.specs.declared.command.Command.{Command}
-use Rattle.two_way_debugger.specs.pisa_machine.Position.{Position}
+use Rattle.live_requests.specs.pisa_scripts.declared.command.Command.{Command}
+use Rattle.live_requests.specs.pisa_machine.Position.{Position}
 use Rattle.image_searches.specs.declared.moves.Outcome.TheVariants.{Met}
 use Rattle.image_searches.specs.declared.searches.Turn.{Turn}
 use Rattle.image_searches.specs.declared.searches.Turn.TheVariants.{On, Over, Lost}

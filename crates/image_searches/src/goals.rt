@@ -6,9 +6,7 @@ ghost use Rattle.image_searches.specs.Goals.{with_number, parsed_numbers, places
 ghost use Rattle.image_searches.specs.Sights.{sought_in};
 
 use crate::watches::{Watch, first_register, is_other, watch_of, word_at};
-use live_requests::Goal;
-use pisa_machine::Machine;
-use pisa_scripts::short_number;
+use live_requests::{Goal, Machine, short_number};
 use std::alloc::{AllocError, Global};
 
 /// What moves look for: some code addresses, and another word of what is watched.

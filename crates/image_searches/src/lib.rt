@@ -12,5 +12,6 @@ mod searches;
 mod watches;
 
 pub use goals::is_served;
+pub use live_requests::{Debugger, Machine, Steps};
 pub use making::make;
 pub use moves::{Moved, Outcome};

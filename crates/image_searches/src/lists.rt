@@ -4,12 +4,9 @@ ghost use Rattle.image_searches.specs.Steps.{ImageMovesSome};
 ghost use Rattle.image_searches.specs.Searches.{image_points as points_of};
 
 use crate::moves::{Moved, Outcome, Step, go};
-use pisa_machine::Steps;
-use pisa_scripts::Command;
-use rpp_words::NoMemory;
+use live_requests::{Command, Debugger, NoMemory, Steps};
 use std::alloc::Global;
 use std::sync::ledger::Ledger;
-use two_way_debugger::Debugger;
 
 /// The lines of the next positions, up to a move that leads nowhere. If memory runs out, some moves
 /// were made.

@@ -7,12 +7,9 @@ ghost use Rattle.live_requests.specs.Asks.{way_of};
 use crate::lists::points;
 use crate::moves::{Moved, way};
 use crate::searches::seek;
-use live_requests::{Ask, Goal};
-use pisa_machine::Steps;
-use rpp_words::NoMemory;
+use live_requests::{Ask, Debugger, Goal, NoMemory, Steps};
 use std::alloc::Global;
 use std::sync::ledger::Ledger;
-use two_way_debugger::Debugger;
 
 /// Makes moves that are asked for. If memory runs out, some moves were made.
 pub fn make<L: Ledger>(

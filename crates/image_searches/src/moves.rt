@@ -3,12 +3,9 @@ ghost use Rattle.std.specs.Prelude.{◌≡◌, if◌then◌else◌, string_bytes
 ghost use Rattle.image_searches.specs.Steps.{led_to, ImageGoes};
 ghost use Rattle.live_requests.specs.Asks.{way_of};
 
-use pisa_machine::Steps;
-use pisa_scripts::Command;
-use rpp_words::NoMemory;
+use live_requests::{Command, Debugger, NoMemory, Steps};
 use std::alloc::Global;
 use std::sync::ledger::Ledger;
-use two_way_debugger::Debugger;
 
 /// How moves ended.
 #[derive(Clone, Copy, PartialEq, Eq, Debug)]

@@ -9,13 +9,9 @@ ghost use Rattle.live_requests.specs.Asks.{way_of};
 
 use crate::goals::{Aim, take_aim, wanted};
 use crate::moves::{Moved, Outcome, Step, go, way};
-use live_requests::Ask;
-use pisa_machine::Steps;
-use pisa_scripts::Command;
-use rpp_words::NoMemory;
+use live_requests::{Ask, Command, Debugger, NoMemory, Steps};
 use std::alloc::Global;
 use std::sync::ledger::Ledger;
-use two_way_debugger::Debugger;
 
 // What one move of a search comes to.
 #[derive(Clone, Copy, PartialEq, Eq, Debug)]

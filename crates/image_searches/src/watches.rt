@@ -3,9 +3,7 @@ ghost use Rattle.std.specs.Prelude.{◌≡◌, slice_get, map};
 ghost use Rattle.image_searches.specs.Goals.{register_of as register_number, register_watch, image_watch_of as watch_for, watched_word as word_in, is_other as is_other_word};
 ghost use Rattle.live_requests.specs.Asks.{first_argument};
 
-use live_requests::Goal;
-use pisa_machine::Machine;
-use pisa_scripts::number_up_to;
+use live_requests::{Goal, Machine, number_up_to};
 
 /// What is watched.
 #[derive(Clone, Copy, PartialEq, Eq, Debug)]

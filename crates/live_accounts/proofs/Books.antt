@@ -3,11 +3,11 @@ use Rattle.std.proofs.Common.{◌≡◌, ℕ, zero, suc, ◌-◌, ◌*◌, ◌^�
 use Rattle.std.proofs.Common.{[], ◌∷◌, length, Some, None}
 use Rattle.std.specs.Prelude.{Option, slice_get}
 use Rattle.std.specs.Option.{unwrap_or}
-use Rattle.source_execution.specs.meaning_machine.buddy_book.Book.{Book, start, take, take_past, take_first, upper_half}
-use Rattle.source_execution.specs.meaning_machine.buddy_book.Book.{below_taken, give_past, give_first, merged}
-use Rattle.source_execution.specs.meaning_machine.buddy_book.Book.{lower_half}
-use Rattle.source_execution.specs.meaning_machine.buddy_book.Place.{Log, Request, Taken, Given, Placing, place}
-use Rattle.source_execution.specs.meaning_machine.buddy_book.Place.{with_block, block_of, after_request}
+use Rattle.source_debugger.specs.buddy_book.Book.{Book, start, take, take_past, take_first, upper_half}
+use Rattle.source_debugger.specs.buddy_book.Book.{below_taken, give_past, give_first, merged}
+use Rattle.source_debugger.specs.buddy_book.Book.{lower_half}
+use Rattle.source_debugger.specs.buddy_book.Place.{Log, Request, Taken, Given, Placing, place}
+use Rattle.source_debugger.specs.buddy_book.Place.{with_block, block_of, after_request}
 
 -- the list at an index
 abbrev pub at : Book → ℕ → List ℕ

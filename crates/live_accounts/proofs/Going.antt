@@ -2,18 +2,18 @@
 use Rattle.std.proofs.Common.{◌≡◌, ℕ, ◌+◌, ◌-◌, ◌^◌, refl, sym, ap, ◌∙◌, arith, append-nil, List, ◌++◌, length}
 use Rattle.std.proofs.Common.{length-append, false, Some, None, inl, inr}
 use Rattle.std.specs.Prelude.{Option, Bool, true, is_some}
-use Rattle.source_execution.specs.rpp_words.declared.input.FieldWord.{FieldWord}
-use Rattle.source_execution.specs.rpp_words.declared.input.Limits.{Limits}
-use Rattle.source_execution.specs.rpp_tree.Tree.{Source}
-use Rattle.source_execution.specs.roopl_semantics.Run.{Run, Done, Fault, More}
-use Rattle.source_execution.specs.roopl_semantics.Execution.{Setting}
-use Rattle.source_execution.specs.meaning_points.Points.{Point, points_behind}
-use Rattle.source_execution.specs.meaning_machine.Machine.{Config, next, walk, seen, point_of}
-use Rattle.source_execution.specs.meaning_machine.SourceLaws.{set_for, start_config}
-use Rattle.source_execution.proofs.meaning_machine_laws.Steps.{plus, seen_plus}
-use Rattle.source_execution.specs.source_steps.Metered.{Went, metered, went, stopped_metered, left_of}
-use Rattle.source_execution.proofs.source_steps_laws.Fuelled.{left_is}
-use Rattle.source_execution.specs.Standing.{ExecutionStanding, IsOver, config_at, setting_at, next_place}
+use Rattle.source_debugger.specs.rpp_words.declared.input.FieldWord.{FieldWord}
+use Rattle.source_debugger.specs.rpp_words.declared.input.Limits.{Limits}
+use Rattle.source_debugger.specs.rpp_tree.Tree.{Source}
+use Rattle.source_debugger.specs.roopl_semantics.Run.{Run, Done, Fault, More}
+use Rattle.source_debugger.specs.roopl_semantics.Execution.{Setting}
+use Rattle.source_debugger.specs.meaning_points.Points.{Point, points_behind}
+use Rattle.source_debugger.specs.meaning_machine.Machine.{Config, next, walk, seen, point_of}
+use Rattle.source_debugger.specs.meaning_machine.SourceLaws.{set_for, start_config}
+use Rattle.source_debugger.proofs.meaning_machine_laws.Steps.{plus, seen_plus}
+use Rattle.source_debugger.specs.source_steps.Metered.{Went, metered, went, stopped_metered, left_of}
+use Rattle.source_debugger.proofs.source_steps_laws.Fuelled.{left_is}
+use Rattle.source_debugger.specs.source_execution.Standing.{ExecutionStanding, IsOver, config_at, setting_at, next_place}
 use Rattle.source_debugger.specs.Watched.{counted}
 use Rattle.source_debugger.specs.Stacks.{IsPosition}
 use Rattle.source_debugger.proofs.source_courses_laws.Rewound.{one_more, counts, none_behind}

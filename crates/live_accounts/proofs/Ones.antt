@@ -2,15 +2,15 @@
 use Rattle.std.proofs.Common.{◌≡◌, ℕ, zero, suc, ◌+◌, ◌-◌, refl, sym, ap, ◌∙◌, arith, Bool, true, false, List}
 use Rattle.std.proofs.Common.{◌++◌, length, length-append, Some, inl, inr, nat_le}
 use Rattle.std.proofs.lemmas.Bool.{leb-true, leb-false}
-use Rattle.source_execution.specs.rpp_tree.Tree.{Statements, End, Then}
-use Rattle.source_execution.specs.roopl_semantics.Run.{Run, Done, after_cost, ◌>>=◌}
-use Rattle.source_execution.specs.roopl_semantics.Store.{State}
-use Rattle.source_execution.specs.roopl_semantics.Execution.{Setting}
-use Rattle.source_execution.specs.meaning_points.Points.{Point, points_behind}
-use Rattle.source_execution.specs.meaning_machine.Machine.{Config, next, walk, stepped, closing, point_of, seen}
-use Rattle.source_execution.specs.meaning_machine.SourceLaws.{set_for, start_config}
-use Rattle.source_execution.proofs.meaning_machine_laws.Steps.{plus, walk_plus, seen_plus, after_zero}
-use Rattle.source_execution.specs.Standing.{IsOver, next_place}
+use Rattle.source_debugger.specs.rpp_tree.Tree.{Statements, End, Then}
+use Rattle.source_debugger.specs.roopl_semantics.Run.{Run, Done, after_cost, ◌>>=◌}
+use Rattle.source_debugger.specs.roopl_semantics.Store.{State}
+use Rattle.source_debugger.specs.roopl_semantics.Execution.{Setting}
+use Rattle.source_debugger.specs.meaning_points.Points.{Point, points_behind}
+use Rattle.source_debugger.specs.meaning_machine.Machine.{Config, next, walk, stepped, closing, point_of, seen}
+use Rattle.source_debugger.specs.meaning_machine.SourceLaws.{set_for, start_config}
+use Rattle.source_debugger.proofs.meaning_machine_laws.Steps.{plus, walk_plus, seen_plus, after_zero}
+use Rattle.source_debugger.specs.source_execution.Standing.{IsOver, next_place}
 use Rattle.source_debugger.specs.Stacks.{IsPosition}
 use Rattle.live_accounts.specs.AccountLaws.{AreOne, PositionsAreOne}
 

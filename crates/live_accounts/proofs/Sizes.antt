@@ -4,9 +4,9 @@ use Rattle.std.proofs.Common.{false}
 use Rattle.std.proofs.lemmas.Bool.{ltb-true, ltb-false}
 use Rattle.std.proofs.Math.Nat.{pow-le-pow_right, pow-succ'}
 use Rattle.std.specs.Prelude.{nat_lt, Bool}
-use Rattle.source_execution.specs.rpp_words.declared.input.TheConstants.{HEADER_WORDS}
-use Rattle.source_execution.specs.roopl_semantics.Execution.{order_of_cells}
-use Rattle.source_execution.proofs.meaning_machine_laws.buddy_book_laws.LeastOrder.{order_for-only}
+use Rattle.source_debugger.specs.rpp_words.declared.input.TheConstants.{HEADER_WORDS}
+use Rattle.source_debugger.specs.roopl_semantics.Execution.{order_of_cells}
+use Rattle.source_debugger.proofs.buddy_book_laws.LeastOrder.{order_for-only}
 
 least : (m n : ℕ) → n + 1 ≡ 2 ^ m → 1 ≤ 2 ^ m → (j : ℕ) → 1 ≤ j → HEADER_WORDS + n ≤ 2 ^ j → suc m ≤ j
 least m n e one j from room = by (nat_lt j (suc m)) refl

@@ -4,17 +4,17 @@ use Rattle.std.proofs.Common.{[], ◌∷◌, ◌++◌, append_assoc, length, rep
 use Rattle.std.proofs.lemmas.List.{length-map, length-replicate}
 use Rattle.std.specs.Prelude.{Option, is_none}
 use Rattle.std.specs.Option.{unwrap_or}
-use Rattle.source_execution.specs.meaning_machine.buddy_book.Book.{Book, take}
-use Rattle.source_execution.specs.meaning_machine.buddy_book.Place.{Log, Taken, Placing, count_taken, with_block}
-use Rattle.source_execution.specs.meaning_machine.buddy_book.Place.{after_request, place}
-use Rattle.source_execution.specs.meaning_machine.buddy_book.Shown.{list_at}
-use Rattle.source_execution.specs.roopl_semantics.Laws.{book_of}
-use Rattle.source_execution.specs.roopl_semantics.Execution.{order_of_cells}
-use Rattle.source_execution.specs.roopl_semantics.Store.{Value, Head}
-use Rattle.source_execution.specs.source_store.declared.value.Value.{Value as Held}
-use Rattle.source_execution.specs.source_store.ValueView.{value_of, values_of}
-use Rattle.source_execution.specs.source_store.HeapView.{Kept, TookBlock, TookNone as FoundNone, Took as Found}
-use Rattle.source_execution.specs.source_store.HeapView.{asked_for}
+use Rattle.source_debugger.specs.buddy_book.Book.{Book, take}
+use Rattle.source_debugger.specs.buddy_book.Place.{Log, Taken, Placing, count_taken, with_block}
+use Rattle.source_debugger.specs.buddy_book.Place.{after_request, place}
+use Rattle.source_debugger.specs.buddy_book.Shown.{list_at}
+use Rattle.source_debugger.specs.roopl_semantics.Laws.{book_of}
+use Rattle.source_debugger.specs.roopl_semantics.Execution.{order_of_cells}
+use Rattle.source_debugger.specs.roopl_semantics.Store.{Value, Head}
+use Rattle.source_debugger.specs.source_store.declared.value.Value.{Value as Held}
+use Rattle.source_debugger.specs.source_store.ValueView.{value_of, values_of}
+use Rattle.source_debugger.specs.source_store.HeapView.{Kept, TookBlock, TookNone as FoundNone, Took as Found}
+use Rattle.source_debugger.specs.source_store.HeapView.{asked_for}
 use Rattle.live_accounts.specs.Free.{free_after, free_line, free_lines}
 use Rattle.live_accounts.specs.Takes.{free_in, IsLast, SameBut, TookOne, TakesNone, TookAll}
 use Rattle.live_accounts.proofs.Books.{at, OneLess, took_past, none_past, AsMany, placed_as, nothing_past}

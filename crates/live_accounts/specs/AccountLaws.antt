@@ -1,9 +1,9 @@
 -- A law of positions.
 use Rattle.std.specs.Prelude.{◌≡◌, ℕ, List}
-use Rattle.source_execution.specs.rpp_words.declared.input.FieldWord.{FieldWord}
-use Rattle.source_execution.specs.rpp_words.declared.input.Limits.{Limits}
-use Rattle.source_execution.specs.rpp_tree.Tree.{Source}
-use Rattle.source_execution.specs.meaning_machine.Machine.{Config}
+use Rattle.source_debugger.specs.rpp_words.declared.input.FieldWord.{FieldWord}
+use Rattle.source_debugger.specs.rpp_words.declared.input.Limits.{Limits}
+use Rattle.source_debugger.specs.rpp_tree.Tree.{Source}
+use Rattle.source_debugger.specs.meaning_machine.Machine.{Config}
 use Rattle.source_debugger.specs.Stacks.{IsThere}
 
 -- the machine is in one place, and has cost the same

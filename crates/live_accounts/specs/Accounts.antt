@@ -1,13 +1,13 @@
 -- What a run has cost up to a position, and its heap there.
 use Rattle.std.specs.Prelude.{◌≡◌, ℕ, List, ◌++◌, codes}
 use Rattle.std.specs.Fmt.{decimal}
-use Rattle.source_execution.specs.rpp_words.Texts.{line_end}
-use Rattle.source_execution.specs.rpp_words.declared.input.FieldWord.{FieldWord}
-use Rattle.source_execution.specs.rpp_words.declared.input.Limits.{Limits}
-use Rattle.source_execution.specs.rpp_tree.Tree.{Source}
-use Rattle.source_execution.specs.roopl_semantics.Report.{Text}
-use Rattle.source_execution.specs.meaning_machine.Machine.{Config}
-use Rattle.source_execution.specs.Standing.{config_at}
+use Rattle.source_debugger.specs.rpp_words.Texts.{line_end}
+use Rattle.source_debugger.specs.rpp_words.declared.input.FieldWord.{FieldWord}
+use Rattle.source_debugger.specs.rpp_words.declared.input.Limits.{Limits}
+use Rattle.source_debugger.specs.rpp_tree.Tree.{Source}
+use Rattle.source_debugger.specs.roopl_semantics.Report.{Text}
+use Rattle.source_debugger.specs.meaning_machine.Machine.{Config}
+use Rattle.source_debugger.specs.source_execution.Standing.{config_at}
 use Rattle.source_debugger.specs.Stacks.{IsThere}
 use Rattle.live_accounts.specs.declared.arriving.Arrived.{Arrived}
 use Rattle.live_accounts.specs.Free.{heap_lines}

@@ -2,13 +2,13 @@
 use Rattle.std.specs.Prelude.{ℕ, zero, suc, ◌+◌, [], ◌++◌, length, codes}
 use Rattle.std.specs.Option.{unwrap_or}
 use Rattle.std.specs.Fmt.{decimal}
-use Rattle.source_execution.specs.rpp_words.Texts.{line_end}
-use Rattle.source_execution.specs.meaning_machine.buddy_book.Book.{Book}
-use Rattle.source_execution.specs.meaning_machine.buddy_book.Place.{Log, count_taken, place}
-use Rattle.source_execution.specs.meaning_machine.buddy_book.Shown.{list_at}
-use Rattle.source_execution.specs.roopl_semantics.Laws.{book_of}
-use Rattle.source_execution.specs.roopl_semantics.Store.{Store}
-use Rattle.source_execution.specs.roopl_semantics.Report.{Text}
+use Rattle.source_debugger.specs.rpp_words.Texts.{line_end}
+use Rattle.source_debugger.specs.buddy_book.Book.{Book}
+use Rattle.source_debugger.specs.buddy_book.Place.{Log, count_taken, place}
+use Rattle.source_debugger.specs.buddy_book.Shown.{list_at}
+use Rattle.source_debugger.specs.roopl_semantics.Laws.{book_of}
+use Rattle.source_debugger.specs.roopl_semantics.Store.{Store}
+use Rattle.source_debugger.specs.roopl_semantics.Report.{Text}
 
 -- the free lists after these requests to a heap of this order; none if a request found no block
 abbrev pub free_after : (order : ℕ) → Log → Book

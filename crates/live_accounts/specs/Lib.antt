@@ -1,4 +1,4 @@
-pub use Rattle.source_execution.specs as source_execution
+pub use Rattle.source_debugger.specs.source_execution
 pub use Rattle.source_debugger.specs as source_debugger
 pub mod Free
 pub mod Takes

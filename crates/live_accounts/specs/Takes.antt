@@ -1,8 +1,8 @@
 -- Free blocks that are taken until none is left.
 use Rattle.std.specs.Prelude.{◌≡◌, ◌≢◌, ◌<◌, ◌≤◌, ℕ, suc, Bool, true, false, [], length}
-use Rattle.source_execution.specs.meaning_machine.buddy_book.Book.{Book}
-use Rattle.source_execution.specs.meaning_machine.buddy_book.Shown.{list_at}
-use Rattle.source_execution.specs.source_store.HeapView.{Kept}
+use Rattle.source_debugger.specs.buddy_book.Book.{Book}
+use Rattle.source_debugger.specs.buddy_book.Shown.{list_at}
+use Rattle.source_debugger.specs.source_store.HeapView.{Kept}
 use Rattle.live_accounts.specs.Free.{free_after}
 
 -- the free lists of a heap

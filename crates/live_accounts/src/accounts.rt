@@ -1,13 +1,11 @@
 // What a run has cost at the position of a debugger, and its heap there.
 ghost use Rattle.std.specs.Prelude.{◌≡◌, IfOk, string_bytes};
-ghost use Rattle.source_execution.specs.rpp_tree.Views.{source_of};
+ghost use Rattle.source_debugger.specs.rpp_tree.Views.{source_of};
 ghost use Rattle.live_accounts.specs.Accounts.{HasArrived, account_cost_line, TellsCost, TellsHeap};
 
 use crate::arriving::{Arrived, go_to};
 use crate::blocks::blocks_text;
-use rpp_words::NoMemory;
-use source_debugger::SourceDebugger;
-use source_store::Lack;
+use source_debugger::{Lack, NoMemory, SourceDebugger};
 use std::alloc::{AllocError, Global};
 
 // The run up to the position of a debugger.

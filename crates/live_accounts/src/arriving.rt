@@ -1,15 +1,11 @@
 // A run that comes to a position.
 ghost use Rattle.std.specs.Prelude.{◌≡◌, IfOk};
-ghost use Rattle.source_execution.specs.rpp_words.Limits.{IsLimits};
-ghost use Rattle.source_execution.specs.rpp_tree.Views.{source_of};
+ghost use Rattle.source_debugger.specs.rpp_words.Limits.{IsLimits};
+ghost use Rattle.source_debugger.specs.rpp_tree.Views.{source_of};
 ghost use Rattle.source_debugger.specs.Watched.{counted as counted_at};
 ghost use Rattle.live_accounts.specs.Accounts.{HasArrived};
 
-use class_table::Checked;
-use rpp_words::{Input, Limits};
-use source_execution::Execution;
-use source_steps::Stop;
-use source_store::Lack;
+use source_debugger::{Checked, Execution, Input, Lack, Limits, Stop};
 use std::alloc::Global;
 
 /// The highest cost of a run that is looked at.

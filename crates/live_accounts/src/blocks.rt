@@ -1,10 +1,10 @@
 // The free blocks of a heap, which are taken to count them.
 ghost use Rattle.std.specs.Prelude.{◌≡◌, ◌++◌, ◌+◌, ◌<◌, ◌≤◌, ◌^◌, IsTrue, IfOk, OnOk, string_bytes, replicate};
-ghost use Rattle.source_execution.specs.roopl_semantics.Execution.{order_of_cells};
+ghost use Rattle.source_debugger.specs.roopl_semantics.Execution.{order_of_cells};
 ghost use Rattle.live_accounts.specs.Free.{free_line, free_lines, heap_lines};
 ghost use Rattle.live_accounts.specs.Takes.{free_in, IsLast, TakesBlock, TookAll};
 
-use source_store::{Head, Heap, Lack, Value};
+use source_debugger::{Head, Heap, Lack, Value};
 use std::alloc::{AllocError, Global};
 
 // The least number of cells of an array that gets a block of an order.

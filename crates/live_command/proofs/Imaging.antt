@@ -3,12 +3,12 @@ use Rattle.std.proofs.Common.{◌≡◌, refl, sym, subst, ℕ, List, None, Ok, 
 use Rattle.std.specs.Prelude.{Result, Option}
 use Rattle.run_settings.specs.rpp_words.declared.input.Limits.{Limits}
 use Rattle.run_settings.specs.rpp_ports.declared.sink.SinkFault.{SinkFault}
-use Rattle.command_plan.specs.pisa_loader.declared.error.LoadError.{LoadError}
-use Rattle.pisa_isa.specs.Image.{Segments}
-use Rattle.two_way_debugger.specs.pisa_machine.Position.{Position}
-use Rattle.live_talks.specs.Talks.{Talk, TalkPrinted, TalkPuts, status_by}
-use Rattle.live_talks.specs.Sessions.{IsSession}
-use Rattle.live_talks.specs.Limits.{Held, held_run, WithLimits}
+use Rattle.run_settings.specs.pisa_loader.declared.error.LoadError.{LoadError}
+use Rattle.run_settings.specs.pisa_isa.Image.{Segments}
+use Rattle.image_commands.specs.pisa_machine.Position.{Position}
+use Rattle.live_images.specs.live_talks.Talks.{Talk, TalkPrinted, TalkPuts, status_by}
+use Rattle.live_images.specs.live_talks.Sessions.{IsSession}
+use Rattle.live_images.specs.live_talks.Limits.{Held, held_run, WithLimits}
 use Rattle.live_images.specs.Sessions.{ImageRepliesOf as RepliesAlong}
 use Rattle.live_command.specs.Lives.{image_greeting, OpensAlong, OpensImage, StartsImage, SizesImage}
 use Rattle.live_command.proofs.Living.{talk_with}

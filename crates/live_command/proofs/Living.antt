@@ -5,27 +5,27 @@ use Rattle.std.specs.Prelude.{Result}
 use Rattle.std.specs.declared.option.Option.{Option}
 use Rattle.run_settings.specs.rpp_tree.Views.{source_of}
 use Rattle.run_settings.specs.rpp_ports.declared.sink.SinkFault.{SinkFault}
-use Rattle.source_debugger.specs.source_courses.declared.running.TheConstants.{MOST_COST}
-use Rattle.source_debugger.specs.Standing.{Standing}
-use Rattle.source_debugger.specs.Failures.{account_of}
+use Rattle.live_session.specs.source_courses.declared.running.TheConstants.{MOST_COST}
+use Rattle.live_session.specs.source_debugger.Standing.{Standing}
+use Rattle.live_session.specs.source_debugger.Failures.{account_of}
 use Rattle.run_settings.specs.Runnable.{RefusesRun, CanRun}
 use Rattle.run_settings.specs.Readied.{IsReadied}
 use Rattle.run_settings.specs.declared.setting.Ready.{Ready}
 use Rattle.run_settings.specs.declared.setting.Ready.TheVariants.{Refused, Runs}
 use Rattle.run_settings.specs.declared.setting.RunSetting.{RunSetting}
-use Rattle.command_plan.specs.Files.{Needed}
-use Rattle.command_plan.specs.Reads.{Stops, StopsAt}
-use Rattle.command_plan.specs.Plans.{planned}
-use Rattle.command_plan.specs.command_ends.Statuses.{code_of}
-use Rattle.command_plan.specs.declared.plan.Room.{Room}
-use Rattle.command_plan.specs.declared.plan.Plan.{Plan}
-use Rattle.command_plan.specs.declared.plan.NoPlan.{NoPlan}
-use Rattle.command_plan.specs.declared.plan.NoPlan.TheVariants.{Unread}
+use Rattle.run_settings.specs.command_plan.Files.{Needed}
+use Rattle.run_settings.specs.command_plan.Reads.{Stops, StopsAt}
+use Rattle.run_settings.specs.command_plan.Plans.{planned}
+use Rattle.run_settings.specs.command_ends.Statuses.{code_of}
+use Rattle.run_settings.specs.command_plan.declared.plan.Room.{Room}
+use Rattle.run_settings.specs.command_plan.declared.plan.Plan.{Plan}
+use Rattle.run_settings.specs.command_plan.declared.plan.NoPlan.{NoPlan}
+use Rattle.run_settings.specs.command_plan.declared.plan.NoPlan.TheVariants.{Unread}
 use Rattle.plan_serving.specs.Outside.{Shelved}
 use Rattle.plan_serving.proofs.Fetched.{some_none}
-use Rattle.live_talks.specs.Talks.{Talk, TalkPrinted, TalkPuts, status_by}
-use Rattle.live_talks.specs.Sessions.{IsSession}
-use Rattle.live_talks.specs.Limits.{held_run as held_at}
+use Rattle.live_images.specs.live_talks.Talks.{Talk, TalkPrinted, TalkPuts, status_by}
+use Rattle.live_images.specs.live_talks.Sessions.{IsSession}
+use Rattle.live_images.specs.live_talks.Limits.{held_run as held_at}
 use Rattle.live_session.specs.Sessions.{RepliesOf}
 use Rattle.live_command.specs.Beginnings.{Opened}
 use Rattle.live_command.specs.Lives.{PutsOnce, Prints, greeting, words_refused, OpensRun, Starts, Lives}

@@ -3,8 +3,8 @@ use Rattle.std.specs.Prelude.{ℕ, List, [], ◌∷◌, None, Some, option_map, 
 use Rattle.std.specs.Prelude.{codes}
 use Rattle.std.specs.declared.option.Option.{Option}
 use Rattle.std.specs.Str.{bytes_eq}
-use Rattle.pisa_scripts.specs.Lines.{short_number}
-use Rattle.command_plan.specs.declared.plan.Room.{Room}
+use Rattle.run_settings.specs.pisa_scripts.Lines.{short_number}
+use Rattle.run_settings.specs.command_plan.declared.plan.Room.{Room}
 use Rattle.live_command.specs.declared.beginning.Beginning.{Beginning}
 use Rattle.live_command.specs.declared.beginning.Loading.{Loading}
 use Rattle.live_command.specs.declared.beginning.Opening.{Opening}

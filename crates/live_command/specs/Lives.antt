@@ -10,27 +10,27 @@ use Rattle.run_settings.specs.rpp_words.Texts.{line_end}
 use Rattle.run_settings.specs.rpp_tree.Tree.{Source}
 use Rattle.run_settings.specs.rpp_ports.declared.sink.SinkFault.{SinkFault}
 use Rattle.run_settings.specs.Runnable.{RefusesRun, RunsTo}
-use Rattle.command_plan.specs.declared.plan.Room.{Room}
+use Rattle.run_settings.specs.command_plan.declared.plan.Room.{Room}
 use Rattle.run_settings.specs.rpp_words.declared.input.TheConstants.{MOST_DEEP}
-use Rattle.command_plan.specs.pisa_image.declared.error.ImageError.{ImageError}
-use Rattle.command_plan.specs.pisa_image.Reading.{image_at}
-use Rattle.command_plan.specs.pisa_loader.Limiting.{limits_refusal}
-use Rattle.command_plan.specs.pisa_loader.declared.error.LoadError.{LoadError}
-use Rattle.command_plan.specs.Files.{Needed, source_file, input_files, image_file, state_files}
-use Rattle.command_plan.specs.Reads.{Gave, StopsAt, ReadsSome}
-use Rattle.command_plan.specs.Plans.{Planned}
-use Rattle.command_plan.specs.command_ends.Statuses.{code_of}
-use Rattle.command_plan.specs.Texts.{image_line, load_line}
-use Rattle.command_plan.specs.command_ends.declared.verdict.Verdict.TheVariants.{ImageRefused, InputRefused}
+use Rattle.run_settings.specs.pisa_image.declared.error.ImageError.{ImageError}
+use Rattle.run_settings.specs.pisa_image.Reading.{image_at}
+use Rattle.run_settings.specs.pisa_loader.Limiting.{limits_refusal}
+use Rattle.run_settings.specs.pisa_loader.declared.error.LoadError.{LoadError}
+use Rattle.run_settings.specs.command_plan.Files.{Needed, source_file, input_files, image_file, state_files}
+use Rattle.run_settings.specs.command_plan.Reads.{Gave, StopsAt, ReadsSome}
+use Rattle.run_settings.specs.command_plan.Plans.{Planned}
+use Rattle.run_settings.specs.command_ends.Statuses.{code_of}
+use Rattle.run_settings.specs.command_plan.Texts.{image_line, load_line}
+use Rattle.run_settings.specs.command_ends.declared.verdict.Verdict.TheVariants.{ImageRefused, InputRefused}
 use Rattle.plan_serving.specs.Outside.{Shelved}
-use Rattle.source_debugger.specs.Failures.{account}
-use Rattle.live_talks.specs.Talks.{Talk, TalkPrinted, TalkPuts, TalkSays, status_by}
-use Rattle.live_talks.specs.Sessions.{IsSession}
-use Rattle.live_talks.specs.Limits.{Held, held_run, WithLimits}
+use Rattle.live_session.specs.source_debugger.Failures.{account}
+use Rattle.live_images.specs.live_talks.Talks.{Talk, TalkPrinted, TalkPuts, TalkSays, status_by}
+use Rattle.live_images.specs.live_talks.Sessions.{IsSession}
+use Rattle.live_images.specs.live_talks.Limits.{Held, held_run, WithLimits}
 use Rattle.live_session.specs.Sessions.{RepliesOf}
-use Rattle.pisa_isa.specs.Image.{Segments}
-use Rattle.pisa_isa.specs.Notes.{NotedImage}
-use Rattle.two_way_debugger.specs.pisa_machine.Position.{Position}
+use Rattle.run_settings.specs.pisa_isa.Image.{Segments}
+use Rattle.run_settings.specs.pisa_isa.Notes.{NotedImage}
+use Rattle.image_commands.specs.pisa_machine.Position.{Position}
 use Rattle.image_commands.specs.ImagePlans.{position_at_start}
 use Rattle.live_images.specs.Sessions.{ImageRepliesOf as RepliesAlong}
 use Rattle.live_command.specs.Beginnings.{Opened, OfSource, OfImage}

@@ -4,12 +4,9 @@ ghost use Rattle.plan_serving.specs.Wanted.{file_of};
 ghost use Rattle.live_command.specs.Beginnings.{session_begun, loads, session_opened, OfSource, OfImage, begin_of, source_begin, source_with, image_begin, image_with, room_of};
 ghost use Rattle.live_command.specs.Lives.{session_files};
 
-use command_plan::{MOST_IMAGE, MOST_STATE, Room};
-use pisa_loader::MOST_INPUT;
-use pisa_scripts::short_number;
 use plan_serving::Wanted;
-use rpp_tree::MOST_BYTES;
-use rpp_words::NoMemory;
+use run_settings::limits::MOST_BYTES;
+use run_settings::{MOST_IMAGE, MOST_INPUT, MOST_STATE, NoMemory, Room, short_number};
 use std::alloc::{AllocError, Global};
 
 /// What a session of a source is held of: its file, the sizes of its memory, and the file of its input,

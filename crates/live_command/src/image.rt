@@ -3,9 +3,9 @@ ghost use Rattle.std.specs.Prelude.{◌≡◌, ◌≤◌, Some, option_map};
 ghost use Rattle.run_settings.specs.rpp_ports.Ports.{Rose};
 ghost use Rattle.run_settings.specs.rpp_words.Limits.{IsLimits};
 ghost use Rattle.run_settings.specs.rpp_words.declared.input.TheConstants.{MOST_DEEP};
-ghost use Rattle.command_plan.specs.pisa_image.Reading.{image_at};
-ghost use Rattle.command_plan.specs.pisa_loader.Limiting.{limits_refusal};
-ghost use Rattle.command_plan.specs.pisa_loader.States.{Gives};
+ghost use Rattle.run_settings.specs.pisa_image.Reading.{image_at};
+ghost use Rattle.run_settings.specs.pisa_loader.Limiting.{limits_refusal};
+ghost use Rattle.run_settings.specs.pisa_loader.States.{Gives};
 ghost use Rattle.image_commands.specs.ImagePlans.{position_at_start};
 ghost use Rattle.live_command.specs.Beginnings.{loads, OfImage};
 ghost use Rattle.live_command.specs.Lives.{Lives, ReadsImage, SizesImage, StartsImage, OpensAlong};
@@ -14,21 +14,16 @@ ghost use Rattle.live_images.specs.Sessions.{held_in};
 use crate::beginning::{Loading, wanted_image};
 use crate::reporting::report;
 use crate::texts::{first_text, second_text};
-use command_plan::{NoPlan, Room, Verdict, image_line, load_line};
-use live_images::{Run, serve};
-use live_port::Asker;
-use live_talks::{say, status_by};
-use pisa_image::{ImageError, read_image};
-use pisa_isa::Image;
-use pisa_loader::{LoadError, check_limits, load, load_state};
-use pisa_machine::{Machine, Steps};
-use plan_serving::fetch;
-use rpp_ports::{Shelf, Sink};
-use rpp_words::{Input, Limits, MOST_DEEP, NoMemory};
+use image_commands::{Debugger, Machine, Steps};
+use live_images::{Asker, Run, say, serve, status_by};
+use plan_serving::{Shelf, Sink, fetch};
+use run_settings::{
+    Image, ImageError, Input, Limits, LoadError, MOST_DEEP, NoMemory, NoPlan, Room, Verdict,
+    check_limits, image_line, load, load_line, load_state, read_image,
+};
 use std::alloc::Global;
 use std::marker::Brand;
 use std::sync::ledger::{Blank, Ledger};
-use two_way_debugger::Debugger;
 
 const OUTSIDE: u8 = 2;
 

@@ -8,4 +8,6 @@ mod reporting;
 mod texts;
 mod top;
 
+pub use live_images::InAsker;
+pub use plan_serving::{FileShelf, OutSink};
 pub use top::live;

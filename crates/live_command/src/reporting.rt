@@ -1,8 +1,8 @@
 // A text that is put where no session is held.
 ghost use Rattle.live_command.specs.Lives.{PutsOnce};
 
-use live_talks::{say, status_by};
-use rpp_ports::Sink;
+use live_images::{say, status_by};
+use plan_serving::Sink;
 
 /// Puts a text, once. The status is this one, if the text is taken.
 pub(crate) fn report<K: Sink>(out: &mut K, text: &str, taken: u8) -> u8

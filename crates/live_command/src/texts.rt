@@ -2,7 +2,7 @@
 ghost use Rattle.std.specs.Prelude.{◌≡◌, [], get_or, slice_get, map, option_map};
 ghost use Rattle.plan_serving.specs.Places.{held_bytes};
 
-use rpp_ports::Named;
+use plan_serving::Named;
 
 /// The first text.
 pub(crate) fn first_text(texts: &[Named]) -> &[u8]

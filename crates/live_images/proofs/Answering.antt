@@ -2,12 +2,12 @@
 use Rattle.std.proofs.Common.{◌≡◌, refl, sym, subst, ℕ, List, Bool, false, Some, None, inl}
 use Rattle.std.proofs.Common.{inr}
 use Rattle.std.specs.Prelude.{Option, ⊤}
-use Rattle.two_way_debugger.specs.pisa_machine.Position.{Position}
-use Rattle.live_port.specs.Heard.{Heard, Line}
-use Rattle.live_requests.specs.declared.request.Request.{Request}
-use Rattle.live_requests.specs.declared.request.Request.TheVariants.{Limit, Quit}
-use Rattle.live_requests.specs.Limited.{limit_of}
-use Rattle.live_requests.specs.Requests.{request_of, is_quit}
+use Rattle.image_searches.specs.pisa_machine.Position.{Position}
+use Rattle.live_talks.specs.live_port.Heard.{Heard, Line}
+use Rattle.live_talks.specs.live_requests.declared.request.Request.{Request}
+use Rattle.live_talks.specs.live_requests.declared.request.Request.TheVariants.{Limit, Quit}
+use Rattle.live_talks.specs.live_requests.Limited.{limit_of}
+use Rattle.live_talks.specs.live_requests.Requests.{request_of, is_quit}
 use Rattle.live_talks.specs.declared.ends.End.{End}
 use Rattle.live_talks.specs.declared.ends.End.TheVariants as end
 use Rattle.live_talks.specs.Ends.{end_line}

@@ -1,14 +1,14 @@
 -- The replies to the lines of a script.
 use Rattle.std.proofs.Common.{◌≡◌, ◌∙◌, sym, ap, ℕ, List, [], ◌∷◌, ◌++◌, None, Ok, inl, inr}
-use Rattle.pisa_scripts.specs.Lines.{pieces, without_returns}
-use Rattle.pisa_scripts.specs.declared.command.Command.{Command}
-use Rattle.two_way_debugger.specs.pisa_machine.Position.{Position}
-use Rattle.live_requests.specs.debugger_scripts.Scripts.{script_of}
-use Rattle.two_way_debugger.specs.Shown.{shown, walk_of, text_of}
-use Rattle.live_requests.specs.declared.request.Request.{Request}
-use Rattle.live_requests.proofs.ScriptLines.{AreCommands, script_lines}
+use Rattle.live_talks.specs.pisa_scripts.Lines.{pieces, without_returns}
+use Rattle.live_talks.specs.pisa_scripts.declared.command.Command.{Command}
+use Rattle.image_searches.specs.pisa_machine.Position.{Position}
+use Rattle.live_talks.specs.debugger_scripts.Scripts.{script_of}
+use Rattle.image_searches.specs.two_way_debugger.Shown.{shown, walk_of, text_of}
+use Rattle.live_talks.specs.live_requests.declared.request.Request.{Request}
+use Rattle.live_talks.proofs.live_requests_laws.ScriptLines.{AreCommands, script_lines}
 use Rattle.live_images.specs.Replies.{answered, image_said_of}
-use Rattle.live_requests.proofs.Unlimited.{unlimited}
+use Rattle.live_talks.proofs.live_requests_laws.Unlimited.{unlimited}
 
 -- what a line and those after it say, by its request
 abbrev by_request : (line : List ℕ) → (lines : List (List ℕ)) → Position → Request → List ℕ

@@ -1,10 +1,10 @@
 -- A law of sessions along the run of an image.
 use Rattle.std.specs.Prelude.{◌≡◌, ℕ, List, Ok}
-use Rattle.pisa_scripts.specs.Lines.{pieces, without_returns}
-use Rattle.pisa_scripts.specs.declared.command.Command.{Command}
-use Rattle.two_way_debugger.specs.pisa_machine.Position.{Position}
-use Rattle.live_requests.specs.debugger_scripts.Scripts.{script_of}
-use Rattle.two_way_debugger.specs.Shown.{shown}
+use Rattle.live_talks.specs.pisa_scripts.Lines.{pieces, without_returns}
+use Rattle.live_talks.specs.pisa_scripts.declared.command.Command.{Command}
+use Rattle.image_searches.specs.pisa_machine.Position.{Position}
+use Rattle.live_talks.specs.debugger_scripts.Scripts.{script_of}
+use Rattle.image_searches.specs.two_way_debugger.Shown.{shown}
 use Rattle.live_images.specs.Replies.{image_said_of}
 
 -- the lines of a script, one by one: without their last lines, the replies are what `debug` prints

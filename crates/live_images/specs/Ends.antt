@@ -1,18 +1,18 @@
 -- How the replies to commands and moves end.
 use Rattle.std.specs.Prelude.{ℕ, ◌+◌, ◌-◌, Bool, true, not, nat_lt, if◌then◌else◌, List}
 use Rattle.std.specs.Prelude.{Option}
-use Rattle.pisa_scripts.specs.declared.command.Command.{Command}
-use Rattle.pisa_scripts.specs.declared.command.Command.TheVariants.{Step, Back, To, BackTo}
-use Rattle.pisa_scripts.specs.declared.command.Command.TheVariants.{Regs, Cells}
-use Rattle.live_requests.specs.declared.asks.Goal.{Goal}
-use Rattle.live_requests.specs.declared.asks.Goal.TheVariants.{Points}
-use Rattle.live_requests.specs.Limited.{is_cut, limited}
+use Rattle.live_talks.specs.pisa_scripts.declared.command.Command.{Command}
+use Rattle.live_talks.specs.pisa_scripts.declared.command.Command.TheVariants.{Step, Back, To, BackTo}
+use Rattle.live_talks.specs.pisa_scripts.declared.command.Command.TheVariants.{Regs, Cells}
+use Rattle.live_talks.specs.live_requests.declared.asks.Goal.{Goal}
+use Rattle.live_talks.specs.live_requests.declared.asks.Goal.TheVariants.{Points}
+use Rattle.live_talks.specs.live_requests.Limited.{is_cut, limited}
 use Rattle.image_searches.specs.declared.moves.Outcome.{Outcome}
 use Rattle.image_searches.specs.declared.moves.Outcome.TheVariants as outcome
 use Rattle.live_talks.specs.declared.ends.End.{End}
 use Rattle.live_talks.specs.declared.ends.End.TheVariants.{Done, Met, More, Start, Over, Fault}
 use Rattle.live_talks.specs.Limits.{end_cut}
-use Rattle.live_requests.specs.two_way_debugger.Shown.{most_moves}
+use Rattle.image_searches.specs.two_way_debugger.Shown.{most_moves}
 use Rattle.live_talks.specs.Ends.{has_letter}
 
 -- How moves ended, by the line on them. It is `at J pc P br B dir D`, and then perhaps ` start` or

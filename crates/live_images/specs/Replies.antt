@@ -2,19 +2,19 @@
 use Rattle.std.specs.Prelude.{ℕ, Bool, List, [], ◌∷◌, ◌++◌, if◌then◌else◌, Option, Some, None}
 use Rattle.std.specs.Prelude.{codes}
 use Rattle.std.specs.Fmt.{decimal}
-use Rattle.pisa_scripts.specs.Lines.{pieces}
-use Rattle.pisa_scripts.specs.declared.command.Command.{Command}
-use Rattle.two_way_debugger.specs.pisa_scripts.rpp_words.Texts.{line_end}
-use Rattle.two_way_debugger.specs.pisa_machine.Position.{Position}
-use Rattle.two_way_debugger.specs.Shown.{walk_of, text_of}
-use Rattle.live_requests.specs.declared.asks.Ask.{Ask}
-use Rattle.live_requests.specs.declared.asks.Goal.{Goal}
-use Rattle.live_requests.specs.declared.request.Request.{Request}
-use Rattle.live_requests.specs.declared.request.Request.TheVariants.{Nothing, Carry, Spend}
-use Rattle.live_requests.specs.declared.request.Request.TheVariants.{Limit, Quit, Bad}
-use Rattle.live_requests.specs.Asks.{ask_of, arguments}
-use Rattle.live_requests.specs.Limited.{limited, limited_ask, is_cut_ask}
-use Rattle.live_requests.specs.Requests.{request_of}
+use Rattle.live_talks.specs.pisa_scripts.Lines.{pieces}
+use Rattle.live_talks.specs.pisa_scripts.declared.command.Command.{Command}
+use Rattle.image_searches.specs.rpp_words.Texts.{line_end}
+use Rattle.image_searches.specs.pisa_machine.Position.{Position}
+use Rattle.image_searches.specs.two_way_debugger.Shown.{walk_of, text_of}
+use Rattle.live_talks.specs.live_requests.declared.asks.Ask.{Ask}
+use Rattle.live_talks.specs.live_requests.declared.asks.Goal.{Goal}
+use Rattle.live_talks.specs.live_requests.declared.request.Request.{Request}
+use Rattle.live_talks.specs.live_requests.declared.request.Request.TheVariants.{Nothing, Carry, Spend}
+use Rattle.live_talks.specs.live_requests.declared.request.Request.TheVariants.{Limit, Quit, Bad}
+use Rattle.live_talks.specs.live_requests.Asks.{ask_of, arguments}
+use Rattle.live_talks.specs.live_requests.Limited.{limited, limited_ask, is_cut_ask}
+use Rattle.live_talks.specs.live_requests.Requests.{request_of}
 use Rattle.image_searches.specs.Goals.{is_served}
 use Rattle.image_searches.specs.Makings.{image_made}
 use Rattle.image_searches.specs.Searches.{ImageFound}

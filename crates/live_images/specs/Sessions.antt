@@ -1,9 +1,9 @@
 -- Sessions along the run of an image.
 use Rattle.std.specs.Prelude.{◌≡◌, ℕ, List, Option}
-use Rattle.two_way_debugger.specs.pisa_machine.Position.{Position}
-use Rattle.live_requests.specs.declared.request.Request.{Request}
-use Rattle.live_requests.specs.Limited.{limit_of}
-use Rattle.live_requests.specs.Requests.{request_of}
+use Rattle.image_searches.specs.pisa_machine.Position.{Position}
+use Rattle.live_talks.specs.live_requests.declared.request.Request.{Request}
+use Rattle.live_talks.specs.live_requests.Limited.{limit_of}
+use Rattle.live_talks.specs.live_requests.Requests.{request_of}
 use Rattle.live_talks.specs.Sessions.{Replier}
 use Rattle.live_talks.specs.Limits.{Held, LimitedBy}
 use Rattle.live_talks.specs.Serving.{Reply, OrMemory}

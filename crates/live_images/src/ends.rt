@@ -4,9 +4,7 @@ ghost use Rattle.live_images.specs.Ends.{image_end_in as end_in_text, image_end_
 ghost use Rattle.live_talks.specs.Ends.{has_letter};
 
 use image_searches::Outcome;
-use live_requests::{Goal, is_cut, limited, most_of};
-use live_talks::{End, end_cut};
-use pisa_scripts::Command;
+use live_talks::{Command, End, Goal, end_cut, is_cut, limited, most_of};
 
 fn has(letter: u8, text: &str) -> bool
     ensures { result ≡ has_letter letter text.now }

@@ -10,5 +10,6 @@ mod run;
 mod session;
 mod telling;
 
+pub use live_talks::{Asker, InAsker, say, status_by};
 pub use run::Run;
 pub use session::serve;

@@ -1,19 +1,15 @@
 // The replies to requests.
 ghost use Rattle.std.specs.Prelude.{◌≡◌, false, ⊤, Some, map};
-ghost use Rattle.pisa_scripts.specs.Lines.{pieces as pieces_of};
-ghost use Rattle.live_requests.specs.Requests.{is_quit};
+ghost use Rattle.live_talks.specs.pisa_scripts.Lines.{pieces as pieces_of};
+ghost use Rattle.live_talks.specs.live_requests.Requests.{is_quit};
 ghost use Rattle.live_talks.specs.Serving.{PutsBy};
 ghost use Rattle.live_images.specs.Replies.{carried, spent, answered_by, answered_words};
 ghost use Rattle.live_images.specs.Sessions.{held_in, GivesAnswer, ImageReplies};
 
 use crate::run::Run;
 use crate::telling::{read_served, tell_carried, tell_moves, tell_spent};
-use live_requests::{Ask, Request};
-use live_talks::{End, say_bye, say_end, say_text};
-use pisa_machine::Steps;
-use pisa_scripts::{Command, pieces};
-use rpp_ports::Sink;
-use rpp_words::NoMemory;
+use image_searches::Steps;
+use live_talks::{Ask, Command, End, NoMemory, Request, Sink, pieces, say_bye, say_end, say_text};
 use std::alloc::Global;
 use std::sync::ledger::Ledger;
 

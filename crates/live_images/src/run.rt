@@ -3,7 +3,7 @@ ghost use Rattle.std.specs.Prelude.{◌≡◌, None};
 ghost use Rattle.live_talks.specs.Limits.{held_run};
 ghost use Rattle.live_images.specs.Sessions.{held_in};
 
-use two_way_debugger::Debugger;
+use image_searches::Debugger;
 
 /// The run of an image that is held open, and the most moves that a request makes, if there is a
 /// limit.

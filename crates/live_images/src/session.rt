@@ -1,7 +1,7 @@
 // A session: lines and their replies.
 ghost use Rattle.std.specs.Prelude.{◌≤◌, length, ⊤};
-ghost use Rattle.pisa_scripts.specs.declared.lines.TheConstants.{MOST_SCRIPT};
-ghost use Rattle.live_port.specs.Heard.{Heard};
+ghost use Rattle.live_talks.specs.pisa_scripts.declared.lines.TheConstants.{MOST_SCRIPT};
+ghost use Rattle.live_talks.specs.live_port.Heard.{Heard};
 ghost use Rattle.live_talks.specs.Limits.{WithLimits};
 ghost use Rattle.live_talks.specs.Serving.{PutsBy, Serves};
 ghost use Rattle.live_talks.specs.Sessions.{IsReply, IsSession, quits};
@@ -9,12 +9,8 @@ ghost use Rattle.live_images.specs.Sessions.{ImageRepliesOf, held_in};
 
 use crate::replying::answer;
 use crate::run::Run;
-use live_port::{Asked, Asker};
-use live_requests::read_request;
-use live_talks::{End, say_end};
-use pisa_machine::Steps;
-use rpp_ports::Sink;
-use rpp_words::NoMemory;
+use image_searches::Steps;
+use live_talks::{Asked, Asker, End, NoMemory, Sink, read_request, say_end};
 use std::alloc::Global;
 use std::sync::ledger::Ledger;
 

@@ -1,19 +1,16 @@
 // The texts of replies.
 ghost use Rattle.std.specs.Prelude.{◌≡◌, ◌++◌, IfOk, Some, map, string_bytes};
-ghost use Rattle.live_requests.specs.Asks.{ask_of};
+ghost use Rattle.live_talks.specs.live_requests.Asks.{ask_of};
 ghost use Rattle.live_talks.specs.Ends.{end_line as line_of_end};
 ghost use Rattle.live_images.specs.Replies.{reply_of, carried, spent, served as served_words, answered_by};
 
 use crate::ends::{end_carried, end_moved};
-use image_searches::{is_served, make};
-use live_requests::{Ask, arguments, is_cut_ask, limited, limited_ask, read_ask};
-use live_talks::{End, end_line};
-use pisa_machine::{Machine, Steps};
-use pisa_scripts::Command;
-use rpp_words::NoMemory;
+use image_searches::{Debugger, Machine, Steps, is_served, make};
+use live_talks::{
+    Ask, Command, End, NoMemory, arguments, end_line, is_cut_ask, limited, limited_ask, read_ask,
+};
 use std::alloc::{AllocError, Global};
 use std::sync::ledger::Ledger;
-use two_way_debugger::Debugger;
 
 // What a reply says, and its last line.
 fn ended(text: String, end: End) -> Result<String, AllocError>

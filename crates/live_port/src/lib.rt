@@ -11,3 +11,4 @@ mod trail;
 pub use asker::{Asked, Asker, MOST_LINE};
 pub use in_asker::InAsker;
 pub use memory_asker::MemoryAsker;
+pub use rpp_ports::{Sink, SinkFault};

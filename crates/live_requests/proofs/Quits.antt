@@ -2,9 +2,9 @@
 use Rattle.std.proofs.Common.{◌≡◌, refl, false, ℕ, List, [], ◌∷◌, Bool, true, Result, Ok, Err, if◌then◌else◌}
 use Rattle.std.specs.Prelude.{codes, take, drop, length, nat_lt, Option, Some, None, OnErr}
 use Rattle.std.specs.Str.{bytes_eq}
-use Rattle.pisa_scripts.specs.Lines.{short_number}
-use Rattle.pisa_scripts.specs.declared.command.Command.{Command}
-use Rattle.pisa_scripts.specs.declared.command.Command.TheVariants.{Step, Back, To, BackTo, Regs, Cells}
+use Rattle.debugger_scripts.specs.pisa_scripts.Lines.{short_number}
+use Rattle.debugger_scripts.specs.pisa_scripts.declared.command.Command.{Command}
+use Rattle.debugger_scripts.specs.pisa_scripts.declared.command.Command.TheVariants.{Step, Back, To, BackTo, Regs, Cells}
 use Rattle.debugger_scripts.specs.declared.error.ScriptError.{ScriptError}
 use Rattle.debugger_scripts.specs.Scripts.{script_of}
 use Rattle.live_requests.specs.declared.request.Request.{Request}

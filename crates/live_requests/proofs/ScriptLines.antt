@@ -6,8 +6,8 @@ use Rattle.std.proofs.lemmas.Bool.{false_from_ne_true}
 use Rattle.std.proofs.lemmas.Slice.Eq.{bytes_eq-Decides}
 use Rattle.std.specs.List.{list_any, slice_split, onto_first}
 use Rattle.std.specs.Str.{bytes_eq}
-use Rattle.pisa_scripts.specs.Lines.{is_blank, pieces, begins_with, without_returns}
-use Rattle.pisa_scripts.specs.declared.command.Command.{Command}
+use Rattle.debugger_scripts.specs.pisa_scripts.Lines.{is_blank, pieces, begins_with, without_returns}
+use Rattle.debugger_scripts.specs.pisa_scripts.declared.command.Command.{Command}
 use Rattle.debugger_scripts.specs.declared.error.ScriptError.{ScriptError}
 use Rattle.debugger_scripts.specs.Scripts.{script_of, command_of, with_command, with_line, and_then, commands_from}
 use Rattle.live_requests.specs.declared.request.Request.TheVariants.{Nothing, Carry}

@@ -1,7 +1,7 @@
 -- Commands without a limit.
 use Rattle.std.proofs.Common.{◌≡◌, refl, None}
-use Rattle.pisa_scripts.specs.declared.command.Command.{Command}
-use Rattle.pisa_scripts.specs.declared.command.Command.TheVariants.{Step, Back, To, BackTo, Regs, Cells}
+use Rattle.debugger_scripts.specs.pisa_scripts.declared.command.Command.{Command}
+use Rattle.debugger_scripts.specs.pisa_scripts.declared.command.Command.TheVariants.{Step, Back, To, BackTo, Regs, Cells}
 use Rattle.live_requests.specs.Limited.{limited}
 
 -- without a limit a command is as it is

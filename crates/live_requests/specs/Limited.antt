@@ -1,8 +1,8 @@
 -- The limit on the moves of a request. There may be none.
 use Rattle.std.specs.Prelude.{ℕ, Bool, false, nat_lt, if◌then◌else◌, Option, Some, None}
-use Rattle.pisa_scripts.specs.declared.command.Command.{Command}
-use Rattle.pisa_scripts.specs.declared.command.Command.TheVariants.{Step, Back, To, BackTo}
-use Rattle.pisa_scripts.specs.declared.command.Command.TheVariants.{Regs, Cells}
+use Rattle.debugger_scripts.specs.pisa_scripts.declared.command.Command.{Command}
+use Rattle.debugger_scripts.specs.pisa_scripts.declared.command.Command.TheVariants.{Step, Back, To, BackTo}
+use Rattle.debugger_scripts.specs.pisa_scripts.declared.command.Command.TheVariants.{Regs, Cells}
 use Rattle.live_requests.specs.declared.asks.Ask.{Ask}
 use Rattle.live_requests.specs.declared.request.Request.{Request}
 use Rattle.live_requests.specs.declared.request.Request.TheVariants.{Limit}

@@ -2,10 +2,10 @@
 use Rattle.std.specs.Prelude.{ℕ, Bool, true, false, List, [], ◌∷◌, Result, Ok, Err, codes}
 use Rattle.std.specs.Prelude.{if◌then◌else◌, take, drop}
 use Rattle.std.specs.Prelude.{length, nat_lt, Option, Some, None}
-use Rattle.pisa_scripts.specs.Lines.{short_number}
+use Rattle.debugger_scripts.specs.pisa_scripts.Lines.{short_number}
 use Rattle.std.specs.Str.{bytes_eq}
-use Rattle.pisa_scripts.specs.declared.command.Command.{Command}
-use Rattle.pisa_scripts.specs.declared.command.Command.TheVariants.{Cells}
+use Rattle.debugger_scripts.specs.pisa_scripts.declared.command.Command.{Command}
+use Rattle.debugger_scripts.specs.pisa_scripts.declared.command.Command.TheVariants.{Cells}
 use Rattle.debugger_scripts.specs.declared.error.ScriptError.{ScriptError}
 use Rattle.debugger_scripts.specs.Scripts.{script_of}
 use Rattle.live_requests.specs.declared.request.Request.{Request}

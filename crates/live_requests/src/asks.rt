@@ -1,9 +1,9 @@
 // The words that ask for moves.
 ghost use Rattle.std.specs.Prelude.{◌≡◌, map};
-ghost use Rattle.pisa_scripts.specs.Lines.{short_number as short_number_of};
+ghost use Rattle.debugger_scripts.specs.pisa_scripts.Lines.{short_number as short_number_of};
 ghost use Rattle.live_requests.specs.Asks.{ask_of, ask_by, points_ask, any_ask, depth_ask, until_ask, change_ask, cell_ask, cell_by, change_of, are_numbers as are_number_words, arguments as argument_words, behind_two as behind_two_words, behind_three as behind_three_words};
 
-use pisa_scripts::{number_up_to, short_number};
+use debugger_scripts::{number_up_to, short_number};
 
 /// The most positions that are listed.
 pub const MOST_POINTS: u64 = 1_000_000;

@@ -5,7 +5,7 @@ ghost use Rattle.two_way_debugger.specs.Shown.{most_moves as most_of_command};
 
 use crate::asks::Ask;
 use crate::request::Request;
-use pisa_scripts::Command;
+use debugger_scripts::Command;
 
 // How many of so many moves a limit allows.
 fn allowed(limit: Option<u64>, moves: u64) -> u64

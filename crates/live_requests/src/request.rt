@@ -1,15 +1,14 @@
 // What a line asks.
 ghost use Rattle.std.specs.Prelude.{◌≡◌, ◌≤◌, false, length, take, drop, codes, if◌then◌else◌, IfOk, OnErr};
 ghost use Rattle.std.specs.Str.{bytes_eq};
-ghost use Rattle.pisa_scripts.specs.Lines.{short_number as short_number_of};
-ghost use Rattle.pisa_scripts.specs.declared.lines.TheConstants.{MOST_SCRIPT};
+ghost use Rattle.debugger_scripts.specs.pisa_scripts.Lines.{short_number as short_number_of};
+ghost use Rattle.debugger_scripts.specs.pisa_scripts.declared.lines.TheConstants.{MOST_SCRIPT};
 ghost use Rattle.debugger_scripts.specs.Scripts.{script_of};
 ghost use Rattle.live_requests.specs.Requests.{request_asked, read_as, of_the_fault, of_a_call, of_a_limit, long_of, other_of, or_other, request_of, request_name, is_quit};
 
-use debugger_scripts::{ScriptError, read_script};
-use pisa_scripts::{Command, short_number};
-use rpp_words::NoMemory;
+use debugger_scripts::{Command, ScriptError, read_script, short_number};
 use std::alloc::Global;
+use two_way_debugger::NoMemory;
 
 /// What a line asks.
 #[derive(Clone, Copy, PartialEq, Eq, Debug)]

@@ -5,7 +5,7 @@ use Rattle.std.specs.Prelude.{Option, nat_eq, if◌then◌else◌}
 use Rattle.source_debugger.specs.meaning_points.rpp_tree.Tree.{Source}
 use Rattle.source_debugger.specs.meaning_points.Trail.{Trail}
 use Rattle.source_debugger.specs.Walks.{Stand, Onward, Moves, Stays, Hidden, stand_at, onward}
-use Rattle.pisa_scripts.specs.declared.command.Command.{Command}
+use Rattle.live_requests.specs.pisa_scripts.declared.command.Command.{Command}
 use Rattle.source_debugger.specs.source_courses.declared.moves.TheConstants.{LAST_POSITION}
 use Rattle.source_debugger.specs.Shown.{Told, told_by, reply_at, line_at}
 use Rattle.live_searches.specs.declared.moves.Outcome.TheVariants.{Met, Stopped}

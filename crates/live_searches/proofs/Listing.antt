@@ -5,7 +5,7 @@ use Rattle.std.specs.Prelude.{Option, nat_eq}
 use Rattle.source_debugger.specs.meaning_points.rpp_tree.Views.{source_of}
 use Rattle.source_debugger.specs.meaning_points.rpp_tree.Tree.{Source}
 use Rattle.source_debugger.specs.meaning_points.Trail.{Trail}
-use Rattle.pisa_scripts.specs.declared.command.Command.{Command}
+use Rattle.live_requests.specs.pisa_scripts.declared.command.Command.{Command}
 use Rattle.source_debugger.specs.Shown.{told_by}
 use Rattle.source_debugger.specs.Standing.{Standing, trail_of}
 use Rattle.live_searches.specs.declared.moves.Outcome.{Outcome}

@@ -3,8 +3,8 @@ use Rattle.std.proofs.Common.{◌≡◌, ◌∙◌, sym, ap, subst, refl, ℕ, s
 use Rattle.std.proofs.Common.{Bool, true, false, Some, Result, Ok, Err}
 use Rattle.std.specs.Prelude.{Option, nat_eq, IfOk, string_bytes}
 use Rattle.source_debugger.specs.meaning_points.rpp_tree.Views.{source_of}
-use Rattle.pisa_scripts.specs.declared.command.Command.{Command}
-use Rattle.pisa_scripts.specs.declared.command.Command.TheVariants as command
+use Rattle.live_requests.specs.pisa_scripts.declared.command.Command.{Command}
+use Rattle.live_requests.specs.pisa_scripts.declared.command.Command.TheVariants as command
 use Rattle.source_debugger.specs.Shown.{Told, told_by}
 use Rattle.source_debugger.specs.Standing.{Standing, trail_of, CommandsLead}
 use Rattle.live_requests.specs.declared.asks.Goal.{Goal}

@@ -1,7 +1,7 @@
 -- What a word says to watch.
 use Rattle.std.proofs.Common.{◌≡◌, ◌∙◌, ap, List, ℕ, Some, None, Result, Ok, Err}
 use Rattle.std.specs.Prelude.{Option, IfOk, codes}
-use Rattle.pisa_scripts.specs.Lines.{pieces}
+use Rattle.live_requests.specs.pisa_scripts.Lines.{pieces}
 use Rattle.live_searches.specs.declared.watches.Watch.{Watch as KeptWatch}
 use Rattle.live_searches.specs.Goals.{SearchWatch, cell_watch, or_watch, variable_watch, watch_of}
 use Rattle.live_searches.specs.Sights.{watch_in}

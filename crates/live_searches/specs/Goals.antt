@@ -3,8 +3,8 @@ use Rattle.std.specs.Prelude.{ℕ, ◌-◌, ◌^◌, Bool, true, false, not, nat
 use Rattle.std.specs.Prelude.{if◌then◌else◌, List, [], ◌∷◌, ◌++◌, codes, Option, Some, None}
 use Rattle.std.specs.List.{starts_with}
 use Rattle.std.specs.Str.{bytes_eq}
-use Rattle.pisa_scripts.specs.rpp_words.Texts.{line_end}
-use Rattle.pisa_scripts.specs.Lines.{pieces, number_up_to, short_number}
+use Rattle.source_debugger.specs.rpp_words.Texts.{line_end}
+use Rattle.live_requests.specs.pisa_scripts.Lines.{pieces, number_up_to, short_number}
 use Rattle.source_debugger.specs.meaning_points.rpp_tree.Tree.{Source}
 use Rattle.source_debugger.specs.meaning_points.Trail.{Trail}
 use Rattle.source_debugger.specs.declared.looking.Seen.{Seen}

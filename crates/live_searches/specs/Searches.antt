@@ -3,8 +3,8 @@ use Rattle.std.specs.Prelude.{ℕ, zero, suc, Bool, nat_eq, if◌then◌else◌,
 use Rattle.std.specs.Prelude.{Some, None}
 use Rattle.source_debugger.specs.meaning_points.rpp_tree.Tree.{Source}
 use Rattle.source_debugger.specs.meaning_points.Trail.{Trail}
-use Rattle.pisa_scripts.specs.declared.command.Command.{Command}
-use Rattle.pisa_scripts.specs.declared.command.Command.TheVariants as command
+use Rattle.live_requests.specs.pisa_scripts.declared.command.Command.{Command}
+use Rattle.live_requests.specs.pisa_scripts.declared.command.Command.TheVariants as command
 use Rattle.source_debugger.specs.Shown.{Told, told_by}
 use Rattle.live_searches.specs.declared.moves.Outcome.{Outcome}
 use Rattle.live_searches.specs.declared.moves.Outcome.TheVariants.{Met, Made, Stopped}

@@ -1,7 +1,7 @@
 -- What `until change` watches and compares, as it is kept.
 use Rattle.std.specs.Prelude.{ℕ, Option, Some, None}
-use Rattle.pisa_scripts.specs.declared.command.Command.{Command}
-use Rattle.pisa_scripts.specs.declared.command.Command.TheVariants.{Regs, Cells}
+use Rattle.live_requests.specs.pisa_scripts.declared.command.Command.{Command}
+use Rattle.live_requests.specs.pisa_scripts.declared.command.Command.TheVariants.{Regs, Cells}
 use Rattle.live_searches.specs.declared.watches.Watch.{Watch as KeptWatch}
 use Rattle.live_searches.specs.declared.goals.Glance.{Glance}
 use Rattle.live_searches.specs.declared.goals.Mark.{Mark as KeptMark}

@@ -1,8 +1,8 @@
 -- Single moves of a debugger.
 use Rattle.std.specs.Prelude.{◌≡◌, ℕ, true, false, nat_eq, List, ◌++◌, Some}
 use Rattle.source_debugger.specs.meaning_points.rpp_tree.Views.{source_of}
-use Rattle.pisa_scripts.specs.declared.command.Command.{Command}
-use Rattle.pisa_scripts.specs.declared.command.Command.TheVariants as command
+use Rattle.live_requests.specs.pisa_scripts.declared.command.Command.{Command}
+use Rattle.live_requests.specs.pisa_scripts.declared.command.Command.TheVariants as command
 use Rattle.source_debugger.specs.Shown.{told_by}
 use Rattle.source_debugger.specs.Standing.{Standing, trail_of}
 use Rattle.live_searches.specs.declared.moves.Step.{Step}

@@ -2,7 +2,7 @@
 use Rattle.std.specs.Prelude.{◌≡◌, ℕ, Bool, true, false, List, Option, Some, ⊤}
 use Rattle.std.specs.Prelude.{string_bytes}
 use Rattle.source_debugger.specs.meaning_points.rpp_tree.Views.{source_of}
-use Rattle.pisa_scripts.specs.declared.command.Command.{Command}
+use Rattle.live_requests.specs.pisa_scripts.declared.command.Command.{Command}
 use Rattle.source_debugger.specs.Shown.{told_by}
 use Rattle.source_debugger.specs.Standing.{Standing, trail_of}
 use Rattle.live_searches.specs.declared.moves.Outcome.TheVariants as outcome

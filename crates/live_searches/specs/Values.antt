@@ -2,8 +2,8 @@
 use Rattle.std.specs.Prelude.{ℕ, nat_eq, if◌then◌else◌, List, [], ◌∷◌, ◌++◌, codes, length, drop}
 use Rattle.std.specs.Prelude.{Option, Some, None, option_map}
 use Rattle.std.specs.List.{starts_with}
-use Rattle.pisa_scripts.specs.rpp_words.Texts.{line_end}
-use Rattle.pisa_scripts.specs.Lines.{pieces}
+use Rattle.source_debugger.specs.rpp_words.Texts.{line_end}
+use Rattle.live_requests.specs.pisa_scripts.Lines.{pieces}
 use Rattle.source_debugger.specs.meaning_points.rpp_tree.Tree.{Source}
 use Rattle.source_debugger.specs.meaning_points.Trail.{Trail}
 use Rattle.source_debugger.specs.Walks.{stand_at}

@@ -10,10 +10,8 @@ ghost use Rattle.live_searches.specs.Sights.{watch_in, sight_of, kept_mark_of, l
 ghost use Rattle.live_requests.specs.Asks.{first_argument};
 
 use crate::watches::{Watch, read_watch};
-use live_requests::Goal;
-use pisa_scripts::{Command, pieces, short_number};
-use rpp_words::NoMemory;
-use source_debugger::{Seen, SourceDebugger};
+use live_requests::{Command, Goal, pieces, short_number};
+use source_debugger::{NoMemory, Seen, SourceDebugger};
 use std::alloc::{AllocError, Global};
 
 // What `until change` compares: the number of active calls, and the lines of what is watched.

@@ -14,4 +14,5 @@ mod watches;
 
 pub use making::{Lost, make};
 pub use moves::{Moved, Outcome};
+pub use source_debugger::{Detail, SourceDebugger};
 pub use values::tell_value;

@@ -6,9 +6,8 @@ ghost use Rattle.live_searches.specs.Steps.{IsSameRun};
 ghost use Rattle.live_searches.specs.Searches.{points as points_of};
 
 use crate::moves::{Moved, Outcome, Step, go};
-use pisa_scripts::Command;
-use rpp_words::NoMemory;
-use source_debugger::SourceDebugger;
+use live_requests::Command;
+use source_debugger::{NoMemory, SourceDebugger};
 use std::alloc::Global;
 
 /// The lines of the next positions, up to a move that leads nowhere. If memory runs out, some moves

@@ -8,10 +8,8 @@ ghost use Rattle.live_searches.specs.Makings.{made, return_way};
 use crate::lists::points;
 use crate::moves::{Moved, way};
 use crate::searches::seek;
-use live_requests::{Ask, Goal};
-use pisa_scripts::Command;
-use rpp_words::NoMemory;
-use source_debugger::SourceDebugger;
+use live_requests::{Ask, Command, Goal};
+use source_debugger::{NoMemory, SourceDebugger};
 use std::alloc::Global;
 
 /// There was no memory for moves.

@@ -3,9 +3,8 @@ ghost use Rattle.std.specs.Prelude.{◌≡◌, nat_eq, if◌then◌else◌, stri
 ghost use Rattle.live_searches.specs.Steps.{Goes};
 ghost use Rattle.live_requests.specs.Asks.{way_of};
 
-use pisa_scripts::Command;
-use rpp_words::NoMemory;
-use source_debugger::SourceDebugger;
+use live_requests::Command;
+use source_debugger::{NoMemory, SourceDebugger};
 use std::alloc::Global;
 
 /// How moves ended.

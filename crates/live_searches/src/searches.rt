@@ -12,10 +12,8 @@ ghost use Rattle.live_requests.specs.Asks.{way_of};
 
 use crate::goals::{Mark, make_mark, wanted};
 use crate::moves::{Moved, Outcome, Step, go, way};
-use live_requests::Ask;
-use pisa_scripts::Command;
-use rpp_words::NoMemory;
-use source_debugger::SourceDebugger;
+use live_requests::{Ask, Command};
+use source_debugger::{NoMemory, SourceDebugger};
 use std::alloc::Global;
 
 // What one move of a search comes to.

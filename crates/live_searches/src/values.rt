@@ -6,9 +6,8 @@ ghost use Rattle.live_searches.specs.Values.{value_in as value_in_line, last_val
 
 use crate::goals::look_command;
 use crate::watches::read_watch;
-use pisa_scripts::pieces;
-use rpp_words::NoMemory;
-use source_debugger::SourceDebugger;
+use live_requests::pieces;
+use source_debugger::{NoMemory, SourceDebugger};
 use std::alloc::{AllocError, Global};
 
 // The rest of a line that begins so, or else another value.

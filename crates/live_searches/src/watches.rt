@@ -1,10 +1,10 @@
 // What `until change` watches.
 ghost use Rattle.std.specs.Prelude.{◌≡◌, ◌++◌, IfOk, codes, map, option_map};
-ghost use Rattle.pisa_scripts.specs.Lines.{pieces as pieces_of};
+ghost use Rattle.live_requests.specs.pisa_scripts.Lines.{pieces as pieces_of};
 ghost use Rattle.live_searches.specs.Goals.{object_number as number_of, cell_watch as watch_of_cell, variable_watch as watch_of_variable, or_watch, watch_of};
 ghost use Rattle.live_searches.specs.Sights.{watch_in};
 
-use pisa_scripts::{number_up_to, pieces};
+use live_requests::{number_up_to, pieces};
 use std::alloc::{AllocError, Global};
 
 /// A variable or field of the method that runs, or a field or element of an object.

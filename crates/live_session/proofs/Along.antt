@@ -1,9 +1,9 @@
 -- Debuggers of one run: their replies are the same.
 use Rattle.std.proofs.Common.{◌≡◌, subst, ℕ}
 use Rattle.std.specs.Prelude.{Option}
-use Rattle.source_debugger.specs.meaning_points.rpp_tree.Views.{source_of}
-use Rattle.source_debugger.specs.Standing.{Standing}
-use Rattle.source_debugger.specs.Failures.{account_of}
+use Rattle.live_searches.specs.rpp_tree.Views.{source_of}
+use Rattle.live_searches.specs.source_debugger.Standing.{Standing}
+use Rattle.live_searches.specs.source_debugger.Failures.{account_of}
 use Rattle.live_searches.specs.Steps.{IsSameRun}
 use Rattle.live_talks.specs.Talks.{Talk}
 use Rattle.live_talks.specs.Serving.{Serves}

@@ -1,13 +1,13 @@
 -- What is put of the reply to a request.
 use Rattle.std.proofs.Common.{◌≡◌, refl, sym, ap, subst, ℕ, List, false, Some, None, Ok, Err, inl, inr}
 use Rattle.std.specs.Prelude.{Option, Result, IfOk, ⊤}
-use Rattle.source_debugger.specs.meaning_points.rpp_tree.Views.{source_of}
-use Rattle.source_debugger.specs.Standing.{Standing}
-use Rattle.source_debugger.specs.declared.failing.Detail.{Detail}
-use Rattle.source_debugger.specs.Failures.{account_of}
-use Rattle.live_requests.specs.declared.asks.Ask.{Ask}
-use Rattle.live_requests.specs.declared.request.Request.{Request}
-use Rattle.live_requests.specs.Requests.{is_quit}
+use Rattle.live_searches.specs.rpp_tree.Views.{source_of}
+use Rattle.live_searches.specs.source_debugger.Standing.{Standing}
+use Rattle.live_searches.specs.source_debugger.declared.failing.Detail.{Detail}
+use Rattle.live_searches.specs.source_debugger.Failures.{account_of}
+use Rattle.live_talks.specs.live_requests.declared.asks.Ask.{Ask}
+use Rattle.live_talks.specs.live_requests.declared.request.Request.{Request}
+use Rattle.live_talks.specs.live_requests.Requests.{is_quit}
 use Rattle.live_searches.specs.Steps.{IsSameRun}
 use Rattle.live_talks.specs.declared.ends.End.TheVariants as end
 use Rattle.live_talks.specs.Ends.{end_line}

@@ -1,15 +1,15 @@
 -- What a command prints, with the last line of its reply.
 use Rattle.std.proofs.Common.{◌≡◌, ◌∙◌, sym, ap, subst, ℕ, List, [], ◌∷◌, ◌++◌, Some, None, Ok, Err, append-nil}
 use Rattle.std.specs.Prelude.{Option, Result, IfOk}
-use Rattle.source_debugger.specs.meaning_points.rpp_tree.Views.{source_of}
-use Rattle.source_debugger.specs.meaning_points.roopl_semantics.Report.{Text}
-use Rattle.pisa_scripts.specs.declared.command.Command.{Command}
-use Rattle.source_debugger.specs.Shown.{Told, told_by, and_told}
-use Rattle.source_debugger.specs.Standing.{Standing, trail_of, CommandsLead}
-use Rattle.live_requests.specs.declared.request.Request.TheVariants.{Carry}
-use Rattle.live_requests.specs.declared.asks.Ask.{Ask}
-use Rattle.live_requests.specs.Asks.{arguments}
-use Rattle.live_requests.specs.Limited.{limited, limited_ask}
+use Rattle.live_searches.specs.rpp_tree.Views.{source_of}
+use Rattle.live_searches.specs.roopl_semantics.Report.{Text}
+use Rattle.live_talks.specs.pisa_scripts.declared.command.Command.{Command}
+use Rattle.live_searches.specs.source_debugger.Shown.{Told, told_by, and_told}
+use Rattle.live_searches.specs.source_debugger.Standing.{Standing, trail_of, CommandsLead}
+use Rattle.live_talks.specs.live_requests.declared.request.Request.TheVariants.{Carry}
+use Rattle.live_talks.specs.live_requests.declared.asks.Ask.{Ask}
+use Rattle.live_talks.specs.live_requests.Asks.{arguments}
+use Rattle.live_talks.specs.live_requests.Limited.{limited, limited_ask}
 use Rattle.live_searches.specs.declared.moves.Outcome.{Outcome}
 use Rattle.live_searches.specs.Makings.{made}
 use Rattle.live_searches.specs.Steps.{IsSameRun}

@@ -1,13 +1,13 @@
 -- The texts of replies that look at one position.
 use Rattle.std.proofs.Common.{◌≡◌, ◌∙◌, refl, sym, ap, subst, ℕ, List, Some}
 use Rattle.std.specs.Prelude.{Option}
-use Rattle.source_debugger.specs.meaning_points.rpp_tree.Tree.{Source}
-use Rattle.source_debugger.specs.meaning_points.rpp_tree.Views.{source_of}
-use Rattle.source_debugger.specs.Standing.{Standing}
-use Rattle.source_debugger.specs.Stacks.{TellsCall}
-use Rattle.source_debugger.specs.declared.failing.Detail.{Detail}
-use Rattle.source_debugger.specs.declared.failing.Detail.TheVariants as details
-use Rattle.source_debugger.specs.Failures.{Account, account_of, shown_of, fails_at}
+use Rattle.live_searches.specs.rpp_tree.Tree.{Source}
+use Rattle.live_searches.specs.rpp_tree.Views.{source_of}
+use Rattle.live_searches.specs.source_debugger.Standing.{Standing}
+use Rattle.live_searches.specs.source_debugger.Stacks.{TellsCall}
+use Rattle.live_searches.specs.source_debugger.declared.failing.Detail.{Detail}
+use Rattle.live_searches.specs.source_debugger.declared.failing.Detail.TheVariants as details
+use Rattle.live_searches.specs.source_debugger.Failures.{Account, account_of, shown_of, fails_at}
 use Rattle.live_session.specs.Replies.{look_reply, value_reply, or_none, replied, RepliesCall}
 use Rattle.live_session.specs.Serving.{AnswersRequest, request_for}
 

@@ -1,17 +1,17 @@
 -- The replies to the lines of a script.
 use Rattle.std.proofs.Common.{◌≡◌, ◌∙◌, refl, sym, ap, ℕ, List, [], ◌∷◌, Some, None, Ok, inl, inr}
 use Rattle.std.specs.Prelude.{Option}
-use Rattle.pisa_scripts.specs.Lines.{pieces, without_returns}
-use Rattle.pisa_scripts.specs.declared.command.Command.{Command}
-use Rattle.source_debugger.specs.meaning_points.rpp_tree.Tree.{Source}
-use Rattle.source_debugger.specs.Failures.{Account}
-use Rattle.source_debugger.specs.Shown.{Told, told, told_by, and_told, behind_text}
-use Rattle.live_requests.specs.debugger_scripts.Scripts.{script_of}
-use Rattle.live_requests.specs.declared.request.Request.{Request}
-use Rattle.live_requests.specs.Limited.{limit_of, limit_after}
-use Rattle.live_requests.proofs.ScriptLines.{AreCommands, script_lines}
+use Rattle.live_talks.specs.pisa_scripts.Lines.{pieces, without_returns}
+use Rattle.live_talks.specs.pisa_scripts.declared.command.Command.{Command}
+use Rattle.live_searches.specs.rpp_tree.Tree.{Source}
+use Rattle.live_searches.specs.source_debugger.Failures.{Account}
+use Rattle.live_searches.specs.source_debugger.Shown.{Told, told, told_by, and_told, behind_text}
+use Rattle.live_talks.specs.debugger_scripts.Scripts.{script_of}
+use Rattle.live_talks.specs.live_requests.declared.request.Request.{Request}
+use Rattle.live_talks.specs.live_requests.Limited.{limit_of, limit_after}
+use Rattle.live_talks.proofs.live_requests_laws.ScriptLines.{AreCommands, script_lines}
 use Rattle.live_session.specs.Replies.{said_to, said_of}
-use Rattle.live_requests.proofs.Unlimited.{unlimited}
+use Rattle.live_talks.proofs.live_requests_laws.Unlimited.{unlimited}
 
 behind_nothing : (o : Option Told) → behind_text [] o ≡ o
 behind_nothing None = refl

@@ -1,19 +1,19 @@
 -- How the replies to commands and moves end.
 use Rattle.std.specs.Prelude.{ℕ, ◌+◌, ◌-◌, Bool, true, false, not, ◌&&◌, nat_lt, List}
 use Rattle.std.specs.Prelude.{if◌then◌else◌, Option}
-use Rattle.pisa_scripts.specs.declared.command.Command.{Command}
-use Rattle.pisa_scripts.specs.declared.command.Command.TheVariants.{Step, Back, To, BackTo}
-use Rattle.pisa_scripts.specs.declared.command.Command.TheVariants.{Regs, Cells}
-use Rattle.live_requests.specs.declared.asks.Goal.{Goal}
-use Rattle.live_requests.specs.declared.asks.Goal.TheVariants.{Points}
-use Rattle.live_requests.specs.declared.asks.Ask.{Ask}
-use Rattle.live_requests.specs.Limited.{limited, is_cut, is_cut_ask}
+use Rattle.live_talks.specs.pisa_scripts.declared.command.Command.{Command}
+use Rattle.live_talks.specs.pisa_scripts.declared.command.Command.TheVariants.{Step, Back, To, BackTo}
+use Rattle.live_talks.specs.pisa_scripts.declared.command.Command.TheVariants.{Regs, Cells}
+use Rattle.live_talks.specs.live_requests.declared.asks.Goal.{Goal}
+use Rattle.live_talks.specs.live_requests.declared.asks.Goal.TheVariants.{Points}
+use Rattle.live_talks.specs.live_requests.declared.asks.Ask.{Ask}
+use Rattle.live_talks.specs.live_requests.Limited.{limited, is_cut, is_cut_ask}
 use Rattle.live_searches.specs.declared.moves.Outcome.{Outcome}
 use Rattle.live_searches.specs.declared.moves.Outcome.TheVariants as outcome
 use Rattle.live_talks.specs.declared.ends.End.{End}
 use Rattle.live_talks.specs.declared.ends.End.TheVariants.{Done, Met, More, Start, Over, Fault}
 use Rattle.live_talks.specs.Limits.{end_cut}
-use Rattle.live_requests.specs.two_way_debugger.Shown.{most_moves}
+use Rattle.live_talks.specs.two_way_debugger.Shown.{most_moves}
 use Rattle.live_talks.specs.Ends.{has_letter}
 
 -- whether fewer moves were made than were allowed

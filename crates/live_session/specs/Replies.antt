@@ -1,24 +1,24 @@
 -- The replies to requests, and where they lead. A limit bounds the moves of a request.
 use Rattle.std.specs.Prelude.{◌≡◌, ℕ, Bool, true, false, if◌then◌else◌, List, [], ◌∷◌, ◌++◌}
 use Rattle.std.specs.Prelude.{Option, Some, None}
-use Rattle.pisa_scripts.specs.Lines.{pieces}
-use Rattle.source_debugger.specs.meaning_points.rpp_tree.Tree.{Source}
-use Rattle.source_debugger.specs.declared.failing.Detail.TheVariants.{Test, Cells}
-use Rattle.source_debugger.specs.Failures.{Account, shown_of, fails_at}
-use Rattle.source_debugger.specs.Shown.{Told, told_by, and_told}
-use Rattle.source_debugger.specs.Stacks.{TellsStack, TellsCall}
+use Rattle.live_talks.specs.pisa_scripts.Lines.{pieces}
+use Rattle.live_searches.specs.rpp_tree.Tree.{Source}
+use Rattle.live_searches.specs.source_debugger.declared.failing.Detail.TheVariants.{Test, Cells}
+use Rattle.live_searches.specs.source_debugger.Failures.{Account, shown_of, fails_at}
+use Rattle.live_searches.specs.source_debugger.Shown.{Told, told_by, and_told}
+use Rattle.live_searches.specs.source_debugger.Stacks.{TellsStack, TellsCall}
 use Rattle.live_accounts.specs.Accounts.{TellsCost, TellsHeap}
-use Rattle.live_requests.specs.declared.asks.Ask.{Ask}
-use Rattle.live_requests.specs.declared.asks.Goal.{Goal}
-use Rattle.live_requests.specs.declared.asks.Goal.TheVariants as goal
-use Rattle.live_requests.specs.declared.request.Request.{Request}
-use Rattle.live_requests.specs.declared.request.Request.TheVariants.{Nothing, Carry, Stack}
-use Rattle.live_requests.specs.declared.request.Request.TheVariants.{RegsOf, Fault, FaultCells}
-use Rattle.live_requests.specs.declared.request.Request.TheVariants.{Value, Heap, Spend, Limit}
-use Rattle.live_requests.specs.declared.request.Request.TheVariants.{Quit, Bad}
-use Rattle.live_requests.specs.Requests.{request_of, request_name}
-use Rattle.live_requests.specs.Asks.{ask_of, arguments}
-use Rattle.live_requests.specs.Limited.{limited, limited_ask, limit_of, limit_after}
+use Rattle.live_talks.specs.live_requests.declared.asks.Ask.{Ask}
+use Rattle.live_talks.specs.live_requests.declared.asks.Goal.{Goal}
+use Rattle.live_talks.specs.live_requests.declared.asks.Goal.TheVariants as goal
+use Rattle.live_talks.specs.live_requests.declared.request.Request.{Request}
+use Rattle.live_talks.specs.live_requests.declared.request.Request.TheVariants.{Nothing, Carry, Stack}
+use Rattle.live_talks.specs.live_requests.declared.request.Request.TheVariants.{RegsOf, Fault, FaultCells}
+use Rattle.live_talks.specs.live_requests.declared.request.Request.TheVariants.{Value, Heap, Spend, Limit}
+use Rattle.live_talks.specs.live_requests.declared.request.Request.TheVariants.{Quit, Bad}
+use Rattle.live_talks.specs.live_requests.Requests.{request_of, request_name}
+use Rattle.live_talks.specs.live_requests.Asks.{ask_of, arguments}
+use Rattle.live_talks.specs.live_requests.Limited.{limited, limited_ask, limit_of, limit_after}
 use Rattle.live_searches.specs.Searches.{Found}
 use Rattle.live_searches.specs.Makings.{made}
 use Rattle.live_searches.specs.Values.{variable_value_at}

@@ -2,15 +2,15 @@
 use Rattle.std.specs.Prelude.{◌≡◌, ℕ, List, Some}
 use Rattle.std.specs.declared.option.Option.{Option}
 use Rattle.std.specs.Prelude.{Result, Ok, Err}
-use Rattle.source_debugger.specs.meaning_points.rpp_tree.Tree.{Source}
-use Rattle.source_debugger.specs.meaning_points.rpp_tree.Views.{source_of}
-use Rattle.source_debugger.specs.declared.failing.Detail.{Detail}
-use Rattle.source_debugger.specs.declared.failing.Detail.TheVariants.{Test, Cells}
-use Rattle.source_debugger.specs.Failures.{Account, account_of}
-use Rattle.source_debugger.specs.Standing.{Standing}
-use Rattle.live_requests.specs.declared.request.Request.{Request}
-use Rattle.live_requests.specs.declared.request.Request.TheVariants.{Fault, FaultCells}
-use Rattle.live_requests.specs.declared.asks.Ask.{Ask}
+use Rattle.live_searches.specs.rpp_tree.Tree.{Source}
+use Rattle.live_searches.specs.rpp_tree.Views.{source_of}
+use Rattle.live_searches.specs.source_debugger.declared.failing.Detail.{Detail}
+use Rattle.live_searches.specs.source_debugger.declared.failing.Detail.TheVariants.{Test, Cells}
+use Rattle.live_searches.specs.source_debugger.Failures.{Account, account_of}
+use Rattle.live_searches.specs.source_debugger.Standing.{Standing}
+use Rattle.live_talks.specs.live_requests.declared.request.Request.{Request}
+use Rattle.live_talks.specs.live_requests.declared.request.Request.TheVariants.{Fault, FaultCells}
+use Rattle.live_talks.specs.live_requests.declared.asks.Ask.{Ask}
 use Rattle.live_searches.specs.Steps.{IsSameRun}
 use Rattle.live_talks.specs.declared.ends.End.TheVariants.{Memory}
 use Rattle.live_talks.specs.Ends.{end_line}

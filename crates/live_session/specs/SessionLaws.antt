@@ -1,11 +1,11 @@
 -- Laws of sessions.
 use Rattle.std.specs.Prelude.{◌≡◌, ℕ, List, Ok, None}
-use Rattle.pisa_scripts.specs.Lines.{pieces, without_returns}
-use Rattle.pisa_scripts.specs.declared.command.Command.{Command}
-use Rattle.source_debugger.specs.meaning_points.rpp_tree.Tree.{Source}
-use Rattle.source_debugger.specs.Failures.{Account}
-use Rattle.source_debugger.specs.Shown.{told}
-use Rattle.live_requests.specs.debugger_scripts.Scripts.{script_of}
+use Rattle.live_talks.specs.pisa_scripts.Lines.{pieces, without_returns}
+use Rattle.live_talks.specs.pisa_scripts.declared.command.Command.{Command}
+use Rattle.live_searches.specs.rpp_tree.Tree.{Source}
+use Rattle.live_searches.specs.source_debugger.Failures.{Account}
+use Rattle.live_searches.specs.source_debugger.Shown.{told}
+use Rattle.live_talks.specs.debugger_scripts.Scripts.{script_of}
 use Rattle.live_session.specs.Replies.{said_of}
 
 -- the lines of a script, one by one, with no limit: without their last lines, the replies are what

@@ -1,8 +1,8 @@
 -- Sessions along the points of a run.
 use Rattle.std.specs.Prelude.{ℕ, Option}
-use Rattle.source_debugger.specs.meaning_points.rpp_tree.Tree.{Source}
-use Rattle.source_debugger.specs.Failures.{Account}
-use Rattle.live_requests.specs.Requests.{request_of}
+use Rattle.live_searches.specs.rpp_tree.Tree.{Source}
+use Rattle.live_searches.specs.source_debugger.Failures.{Account}
+use Rattle.live_talks.specs.live_requests.Requests.{request_of}
 use Rattle.live_talks.specs.Sessions.{Replier}
 use Rattle.live_talks.specs.Limits.{Held, WithLimits}
 use Rattle.live_session.specs.Replies.{IsReplyOf}

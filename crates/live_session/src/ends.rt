@@ -3,10 +3,8 @@ ghost use Rattle.std.specs.Prelude.{◌≡◌, ◌+◌, ◌-◌};
 ghost use Rattle.live_session.specs.Ends.{is_short as is_short_of, end_in as end_in_text, end_shown as shown_end, all_moves_made as are_all_made, end_carried as carried_end, end_of_all, end_moved as moved_end, is_made as is_made_outcome, end_asked as asked_end};
 ghost use Rattle.live_talks.specs.Ends.{has_letter};
 
-use live_requests::{Ask, Goal, is_cut, is_cut_ask, limited, most_of};
 use live_searches::Outcome;
-use live_talks::{End, end_cut};
-use pisa_scripts::Command;
+use live_talks::{Ask, Command, End, Goal, end_cut, is_cut, is_cut_ask, limited, most_of};
 
 // How many moves lie between two positions.
 fn distance(from: u64, to: u64) -> u64

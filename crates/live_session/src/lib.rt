@@ -9,4 +9,5 @@ mod replying;
 mod session;
 mod telling;
 
+pub use live_searches::SourceDebugger;
 pub use session::serve;

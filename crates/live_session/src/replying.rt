@@ -1,10 +1,10 @@
 // The replies to requests.
 ghost use Rattle.std.specs.Prelude.{◌≡◌, false, ⊤, Some, map, string_bytes};
-ghost use Rattle.pisa_scripts.specs.Lines.{pieces as pieces_of};
-ghost use Rattle.source_debugger.specs.meaning_points.rpp_tree.Views.{source_of};
-ghost use Rattle.source_debugger.specs.Failures.{account_of};
-ghost use Rattle.live_requests.specs.declared.request.Request.TheVariants.{Carry};
-ghost use Rattle.live_requests.specs.Requests.{is_quit};
+ghost use Rattle.live_talks.specs.pisa_scripts.Lines.{pieces as pieces_of};
+ghost use Rattle.live_searches.specs.rpp_tree.Views.{source_of};
+ghost use Rattle.live_searches.specs.source_debugger.Failures.{account_of};
+ghost use Rattle.live_talks.specs.live_requests.declared.request.Request.TheVariants.{Carry};
+ghost use Rattle.live_talks.specs.live_requests.Requests.{is_quit};
 ghost use Rattle.live_talks.specs.Talks.{PutsText};
 ghost use Rattle.live_talks.specs.Serving.{OrMemory, PutsBy};
 ghost use Rattle.live_session.specs.Replies.{along as moves_along, asked_moves, IsReplyOf};
@@ -15,12 +15,11 @@ use crate::telling::{
     Unanswered, carry_moves, carry_out, tell_blocks, tell_call, tell_failure, tell_name,
     tell_spent, tell_stack,
 };
-use live_requests::{Ask, Goal, Request, read_ask};
-use live_talks::{End, say_bye, say_bytes, say_end, say_text};
-use pisa_scripts::{Command, pieces};
-use rpp_ports::Sink;
-use rpp_words::NoMemory;
-use source_debugger::{Detail, SourceDebugger};
+use live_searches::{Detail, SourceDebugger};
+use live_talks::{
+    Ask, Command, End, Goal, NoMemory, Request, Sink, pieces, read_ask, say_bye, say_bytes,
+    say_end, say_text,
+};
 use std::alloc::Global;
 
 const NO_MEMORY: u8 = 7;

@@ -1,9 +1,9 @@
 // A session: lines and their replies.
 ghost use Rattle.std.specs.Prelude.{◌≡◌, ◌≤◌, length, ⊤, None};
-ghost use Rattle.pisa_scripts.specs.declared.lines.TheConstants.{MOST_SCRIPT};
-ghost use Rattle.source_debugger.specs.meaning_points.rpp_tree.Views.{source_of};
-ghost use Rattle.source_debugger.specs.Failures.{account_of};
-ghost use Rattle.live_port.specs.Heard.{Heard};
+ghost use Rattle.live_talks.specs.pisa_scripts.declared.lines.TheConstants.{MOST_SCRIPT};
+ghost use Rattle.live_searches.specs.rpp_tree.Views.{source_of};
+ghost use Rattle.live_searches.specs.source_debugger.Failures.{account_of};
+ghost use Rattle.live_talks.specs.live_port.Heard.{Heard};
 ghost use Rattle.live_searches.specs.Steps.{IsSameRun};
 ghost use Rattle.live_talks.specs.Sessions.{IsReply, quits, IsSession};
 ghost use Rattle.live_talks.specs.Serving.{PutsBy, Serves};
@@ -11,12 +11,8 @@ ghost use Rattle.live_talks.specs.Limits.{held_run};
 ghost use Rattle.live_session.specs.Sessions.{RepliesOf};
 
 use crate::replying::answer;
-use live_port::{Asked, Asker};
-use live_requests::{limit_of, read_request};
-use live_talks::{End, say_end};
-use rpp_ports::Sink;
-use rpp_words::NoMemory;
-use source_debugger::SourceDebugger;
+use live_searches::SourceDebugger;
+use live_talks::{Asked, Asker, End, NoMemory, Sink, limit_of, read_request, say_end};
 use std::alloc::Global;
 
 // Puts the reply to a line, which may set the limit.

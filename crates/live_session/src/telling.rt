@@ -1,9 +1,9 @@
 // The texts of replies.
 ghost use Rattle.std.specs.Prelude.{◌≡◌, ◌++◌, IfOk, IsErrOf, map, option_map, Some, string_bytes};
-ghost use Rattle.source_debugger.specs.meaning_points.rpp_tree.Views.{source_of};
-ghost use Rattle.source_debugger.specs.Failures.{account_of};
-ghost use Rattle.live_requests.specs.declared.request.Request.TheVariants.{Carry};
-ghost use Rattle.live_requests.specs.Requests.{request_name};
+ghost use Rattle.live_searches.specs.rpp_tree.Views.{source_of};
+ghost use Rattle.live_searches.specs.source_debugger.Failures.{account_of};
+ghost use Rattle.live_talks.specs.live_requests.declared.request.Request.TheVariants.{Carry};
+ghost use Rattle.live_talks.specs.live_requests.Requests.{request_name};
 ghost use Rattle.live_searches.specs.Steps.{IsSameRun};
 ghost use Rattle.live_searches.specs.Values.{variable_value_at};
 ghost use Rattle.live_talks.specs.Ends.{end_line as line_of_end};
@@ -13,12 +13,8 @@ ghost use Rattle.live_session.specs.Serving.{AnswersRequest, request_for, Moves}
 
 use crate::ends::{end_asked, end_carried};
 use live_accounts::{tell_cost, tell_heap};
-use live_requests::{Ask, arguments, limited, limited_ask, name_in};
-use live_searches::{Lost, Moved, make, tell_value};
-use live_talks::{End, end_line};
-use pisa_scripts::Command;
-use rpp_words::NoMemory;
-use source_debugger::{Detail, SourceDebugger};
+use live_searches::{Detail, Lost, Moved, SourceDebugger, make, tell_value};
+use live_talks::{Ask, Command, End, NoMemory, arguments, end_line, limited, limited_ask, name_in};
 use std::alloc::{AllocError, Global};
 
 /// Why there is no reply: no memory was left.

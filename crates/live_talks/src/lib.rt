@@ -9,4 +9,9 @@ mod saying;
 
 pub use ends::{End, end_line};
 pub use limits::end_cut;
+pub use live_port::{Asked, Asker, InAsker, Sink};
+pub use live_requests::{
+    Ask, Command, Goal, NoMemory, Request, arguments, is_cut, is_cut_ask, limit_of, limited,
+    limited_ask, most_of, name_in, pieces, read_ask, read_request,
+};
 pub use saying::{say, say_bye, say_bytes, say_end, say_text, status_by};

@@ -4,7 +4,7 @@ ghost use Rattle.live_talks.specs.Ends.{end_line as line_of_end};
 ghost use Rattle.live_talks.specs.Talks.{TalkPuts, PutsText, PutsBye, status_by as status_by_answer, over_by as over_by_answer};
 
 use crate::ends::{End, end_line};
-use rpp_ports::{Sink, SinkFault};
+use live_port::{Sink, SinkFault};
 
 const OUTSIDE: u8 = 2;
 

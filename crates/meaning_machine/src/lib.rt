@@ -4,3 +4,5 @@
 #![tactic(auto)]
 
 pub mod laws;
+
+pub use meaning_points::{Book, HEADER_WORDS, NoMemory, faults, order_for};

@@ -3,3 +3,5 @@
 #![tactic(auto)]
 
 pub mod laws;
+
+pub use roopl_semantics::{Book, HEADER_WORDS, NoMemory, faults, order_for};

@@ -1,5 +1,6 @@
 pub use Rattle.meaning_inverse.proofs.meaning_sound_laws
 pub use Rattle.meaning_machine.proofs as meaning_machine_laws
+pub use Rattle.meaning_machine.proofs.buddy_book_laws
 pub mod Undoing
 pub mod Simple
 pub mod Branches

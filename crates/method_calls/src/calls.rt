@@ -16,16 +16,14 @@ ghost use Rattle.method_calls.specs.CallCode.{base_of, offset_of, above_cells, t
 ghost use Rattle.method_calls.specs.Facts.{IsNear};
 ghost use Rattle.method_calls.specs.Laws.{MethodCode, MainCode, OwnCallCode};
 
-use code_conventions::cells::{add, addi, exch};
-use code_conventions::faults::{TOO_DEEP, TOUCHED};
-use code_conventions::memory::{
-    FIRST_VARIABLE, HEADER_WORDS, MAIN_OBJECT, PLACE_WORD, TABLE_HEADER,
+use refine_form::cells::{add, addi, exch};
+use refine_form::faults::{TOO_DEEP, TOUCHED};
+use refine_form::memory::{FIRST_VARIABLE, HEADER_WORDS, MAIN_OBJECT, PLACE_WORD, TABLE_HEADER};
+use refine_form::registers::{ADDRESS, CONTENT, FRAME, LINK, MOVED, NOUGHT, OBJECT, VALUE};
+use refine_form::{
+    Cell, END_CELL, FRAME_WORDS, NoMemory, Piece, STACK_CELL, Spot, around, check_differ,
+    check_equal, empty, enter, enter_at, mirror, plain, seq,
 };
-use code_conventions::registers::{ADDRESS, CONTENT, FRAME, LINK, MOVED, NOUGHT, OBJECT, VALUE};
-use paired_code::{Piece, check_differ, check_equal, empty, enter, enter_at, mirror, plain, seq};
-use pisa_isa::{Cell, END_CELL, STACK_CELL};
-use refine_form::{Spot, around};
-use rpp_words::{FRAME_WORDS, NoMemory};
 use std::alloc::Global;
 
 // A fragment and one instruction more.

@@ -7,12 +7,10 @@ ghost use Rattle.method_calls.specs.CallCode.{store_code, local_open, local_code
 ghost use Rattle.method_calls.specs.Laws.{LocalCode};
 
 use crate::calls::{bare_around, reach};
-use code_conventions::cells::exch;
-use code_conventions::faults::DELOCAL;
-use code_conventions::registers::{FRAME, NOUGHT, VALUE};
-use paired_code::{Piece, check_equal, mirror, plain, seq};
-use refine_form::Spot;
-use rpp_words::NoMemory;
+use refine_form::cells::exch;
+use refine_form::faults::DELOCAL;
+use refine_form::registers::{FRAME, NOUGHT, VALUE};
+use refine_form::{NoMemory, Piece, Spot, check_equal, mirror, plain, seq};
 use std::alloc::Global;
 
 // VALUE changes places with a word of the frame.

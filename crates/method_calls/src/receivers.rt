@@ -15,14 +15,11 @@ ghost use Rattle.method_calls.specs.Laws.{CallOnCode};
 use crate::calls::{
     above_piece, bare_around, depth_piece, fetch_piece, moves_piece, reach, take_piece, then,
 };
-use code_conventions::cells::{add, exch, sub};
-use code_conventions::faults::NIL;
-use code_conventions::memory::OBJECT_WORD;
-use code_conventions::registers::{CONTENT, FRAME, MOVED, OBJECT, VALUE};
-use paired_code::{Piece, check_positive, enter_at, plain, seq};
-use pisa_isa::Cell;
-use refine_form::Spot;
-use rpp_words::NoMemory;
+use refine_form::cells::{add, exch, sub};
+use refine_form::faults::NIL;
+use refine_form::memory::OBJECT_WORD;
+use refine_form::registers::{CONTENT, FRAME, MOVED, OBJECT, VALUE};
+use refine_form::{Cell, NoMemory, Piece, Spot, check_positive, enter_at, plain, seq};
 use std::alloc::Global;
 
 // CONTENT changes places with the word to which the base has gone.

@@ -7,8 +7,8 @@ use Rattle.std.proofs.lemmas.Bool.Decides.{nat_tests}
 use Rattle.std.proofs.lemmas.Int.{ints}
 use Rattle.refine_heap.specs.code_conventions.declared.memory.TheConstants.{HEADER_WORDS}
 use Rattle.refine_heap.specs.rpp_words.Words.{is_less}
-use Rattle.rpp_tree.specs.declared.tree.Ident.{Ident}
-use Rattle.rpp_tree.specs.Tree.{Expression, Whole, Ints, Objects, New, Delete, nodes}
+use Rattle.refine_heap.specs.rpp_tree.declared.tree.Ident.{Ident}
+use Rattle.refine_heap.specs.rpp_tree.Tree.{Expression, Whole, Ints, Objects, New, Delete, nodes}
 use Rattle.refine_heap.specs.buddy_pisa.Promise.{most_steps}
 use Rattle.refine_heap.specs.pisa_isa.Machine.{Memory}
 use Rattle.refine_heap.specs.paired_code.declared.part.Symbol.{Symbol}

@@ -1,7 +1,7 @@
 -- What the calls of a middle give if places are found around it.
 use Rattle.std.proofs.Common.{◌≡◌, ℕ, ◌+◌, ◌*◌, ◌^◌, ◌<◌, ◌≤◌, List, [], ◌∷◌, ◌++◌, length, ap, ◌∙◌, subst, arith}
 use Rattle.std.specs.Prelude.{Result, Ok, Err, IfOk}
-use Rattle.rpp_tree.specs.Tree.{Expression, Lvalue, index_nodes}
+use Rattle.refine_heap.specs.rpp_tree.Tree.{Expression, Lvalue, index_nodes}
 use Rattle.refine_heap.specs.paired_code.declared.part.Symbol.{Symbol}
 use Rattle.refine_heap.specs.paired_code.Code.{Code, unmarked}
 use Rattle.static_layout.specs.roopl_semantics.Elements.{index_elements, own_element, read_cost}

@@ -2,7 +2,7 @@
 use Rattle.std.proofs.Common.{◌≡◌, ◌≢◌, ℕ, ◌+◌, ◌^◌, ◌<◌, ◌≤◌, Bool, true, false, List, ◌++◌, length, refl, sym, ap}
 use Rattle.std.proofs.Common.{◌∙◌, subst, arith}
 use Rattle.std.specs.Prelude.{slice_index}
-use Rattle.rpp_tree.specs.Tree.{Lvalue}
+use Rattle.refine_heap.specs.rpp_tree.Tree.{Lvalue}
 use Rattle.refine_heap.specs.pisa_isa.Machine.{Memory}
 use Rattle.refine_heap.specs.paired_code.declared.part.Symbol.{Symbol}
 use Rattle.refine_heap.specs.paired_code.Machine.{Image, memory_reg}

@@ -1,4 +1,4 @@
-pub use Rattle.rpp_tree.proofs as rpp_tree_laws
+pub use Rattle.refine_heap.proofs.rpp_tree_laws
 pub use Rattle.refine_heap.proofs.class_rules_laws
 pub use Rattle.refine_heap.proofs.buddy_book_laws
 pub use Rattle.static_layout.proofs.roopl_semantics_laws

@@ -4,8 +4,8 @@ use Rattle.std.specs.Prelude.{slice_index, nat_lt, ◌||◌, is_none, replicate,
 use Rattle.std.specs.Option.{unwrap_or}
 use Rattle.refine_heap.specs.code_conventions.declared.memory.TheConstants.{HEADER_WORDS}
 use Rattle.refine_heap.specs.rpp_words.Words.{is_less}
-use Rattle.rpp_tree.specs.declared.tree.Ident.{Ident}
-use Rattle.rpp_tree.specs.Tree.{Expression, Null, Lvalue, Whole}
+use Rattle.refine_heap.specs.rpp_tree.declared.tree.Ident.{Ident}
+use Rattle.refine_heap.specs.rpp_tree.Tree.{Expression, Null, Lvalue, Whole}
 use Rattle.refine_heap.specs.class_rules.Classes.{class_number, class_fields}
 use Rattle.refine_heap.specs.buddy_book.Place.{Log, Taken, count_taken, place as place_log}
 use Rattle.refine_heap.specs.buddy_pisa.Promise.{most_steps}

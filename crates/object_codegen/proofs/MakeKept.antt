@@ -3,8 +3,8 @@
 use Rattle.std.proofs.Common.{◌≡◌, ℕ, ◌+◌, Bool, true, false, List, length, refl, sym, ap, ◌∙◌}
 use Rattle.std.specs.Prelude.{nat_lt, if◌then◌else◌, Result, Ok, Err}
 use Rattle.refine_heap.specs.code_conventions.declared.memory.TheConstants.{HEADER_WORDS}
-use Rattle.rpp_tree.specs.declared.tree.BinOp.{BinOp}
-use Rattle.rpp_tree.specs.Tree.{Expression, Number, Null, Variable, Element, Binary, Lvalue, Whole, Item, Source}
+use Rattle.refine_heap.specs.rpp_tree.declared.tree.BinOp.{BinOp}
+use Rattle.refine_heap.specs.rpp_tree.Tree.{Expression, Number, Null, Variable, Element, Binary, Lvalue, Whole, Item, Source}
 use Rattle.static_layout.specs.roopl_semantics.Store.{Value, Word, Nil, Name, State, number_of, object_at}
 use Rattle.static_layout.specs.roopl_semantics.Value.{Cell, Slot, Part, cell_named, variable_value, read, read_cell}
 use Rattle.static_layout.specs.roopl_semantics.Value.{element_cell}

@@ -4,7 +4,7 @@ use Rattle.std.proofs.Common.{ap, ◌∙◌, subst, arith}
 use Rattle.std.specs.Prelude.{slice_index}
 use Rattle.refine_heap.specs.code_conventions.declared.memory.TheConstants.{HEADER_WORDS}
 use Rattle.refine_heap.specs.buddy_book.Book.{order_for}
-use Rattle.rpp_tree.specs.Tree.{Expression, Null, Lvalue}
+use Rattle.refine_heap.specs.rpp_tree.Tree.{Expression, Null, Lvalue}
 use Rattle.refine_heap.specs.pisa_isa.Machine.{Memory}
 use Rattle.refine_heap.specs.paired_code.declared.part.Symbol.{Symbol}
 use Rattle.refine_heap.specs.paired_code.Machine.{Image}

@@ -5,8 +5,8 @@ use Rattle.std.proofs.Common.{arith, append-nil}
 use Rattle.std.specs.Prelude.{slice_index, nat_eq, not, Result, Ok, Err}
 use Rattle.std.proofs.lemmas.Bool.Decides.{nat_tests}
 use Rattle.refine_heap.specs.code_conventions.declared.memory.TheConstants.{HEADER_WORDS}
-use Rattle.rpp_tree.specs.declared.tree.Ident.{Ident}
-use Rattle.rpp_tree.specs.Tree.{Null, Lvalue, Object as AnObject, New, Delete, index_nodes}
+use Rattle.refine_heap.specs.rpp_tree.declared.tree.Ident.{Ident}
+use Rattle.refine_heap.specs.rpp_tree.Tree.{Null, Lvalue, Object as AnObject, New, Delete, index_nodes}
 use Rattle.refine_heap.specs.buddy_pisa.Promise.{most_steps}
 use Rattle.refine_heap.specs.pisa_isa.Machine.{Memory}
 use Rattle.refine_heap.specs.paired_code.declared.part.Symbol.{Symbol}

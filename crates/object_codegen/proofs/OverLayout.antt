@@ -12,7 +12,7 @@ use Rattle.std.proofs.lemmas.Bool.{cases_lt}
 use Rattle.std.proofs.lemmas.List.Elements.{All-cons, All-from_get_or}
 use Rattle.refine_heap.specs.rpp_words.Words.{IsWord}
 use Rattle.refine_heap.specs.rpp_words.declared.input.Limits.{Limits}
-use Rattle.rpp_tree.specs.Tree.{Source}
+use Rattle.refine_heap.specs.rpp_tree.Tree.{Source}
 use Rattle.refine_heap.specs.pisa_isa.Loaded.{statics_at, heap_base, fixed_cells}
 use Rattle.refine_heap.specs.buddy_book.Book.{Book, take, give_back}
 use Rattle.refine_heap.specs.buddy_book.Shown.{TakenBlocks, order_in}

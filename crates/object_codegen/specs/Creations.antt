@@ -1,8 +1,8 @@
 -- What the code of a `new` does, by what it makes.
 use Rattle.std.specs.Prelude.{ℕ, ◌+◌, ◌*◌, List, length}
 use Rattle.std.specs.Option.{unwrap_or}
-use Rattle.rpp_tree.specs.declared.tree.Ident.{Ident}
-use Rattle.rpp_tree.specs.Tree.{Lvalue, Creation, Object, Ints, Objects, Source}
+use Rattle.refine_heap.specs.rpp_tree.declared.tree.Ident.{Ident}
+use Rattle.refine_heap.specs.rpp_tree.Tree.{Lvalue, Creation, Object, Ints, Objects, Source}
 use Rattle.refine_heap.specs.class_rules.Classes.{class_number, class_fields}
 use Rattle.refine_heap.specs.buddy_book.Book.{order_for}
 use Rattle.refine_heap.specs.code_conventions.declared.memory.TheConstants.{HEADER_WORDS}

@@ -1,5 +1,5 @@
 pub use Rattle.refine_heap.specs.rpp_words
-pub use Rattle.rpp_tree.specs as rpp_tree
+pub use Rattle.refine_heap.specs.rpp_tree
 pub use Rattle.refine_heap.specs.class_rules
 pub use Rattle.refine_heap.specs.pisa_isa
 pub use Rattle.refine_heap.specs.code_conventions

@@ -3,7 +3,7 @@
 use Rattle.std.specs.Prelude.{◌≡◌, ◌≢◌, ℕ, ◌+◌, ◌*◌, ◌^◌, ◌<◌, ◌≤◌, Bool, true, false, List, []}
 use Rattle.std.specs.Prelude.{◌∷◌, slice_index, slice_set, nat_le, if◌then◌else◌, Ok, Err}
 use Rattle.refine_heap.specs.rpp_words.Words.{is_less}
-use Rattle.rpp_tree.specs.Tree.{Expression, Null, Lvalue}
+use Rattle.refine_heap.specs.rpp_tree.Tree.{Expression, Null, Lvalue}
 use Rattle.refine_heap.specs.buddy_book.Book.{order_for}
 use Rattle.refine_heap.specs.pisa_isa.Machine.{Memory}
 use Rattle.refine_heap.specs.code_conventions.declared.memory.TheConstants.{HEADER_WORDS, COUNT_WORD}

@@ -1,7 +1,7 @@
 -- What the code of objects and arrays does, only by the memory.
 use Rattle.std.specs.Prelude.{◌≡◌, ◌≢◌, ℕ, ◌+◌, ◌^◌, ◌<◌, ◌≤◌, Bool, true, false, List, length}
 use Rattle.std.specs.Prelude.{slice_index, slice_set, Ok, Err}
-use Rattle.rpp_tree.specs.Tree.{Lvalue}
+use Rattle.refine_heap.specs.rpp_tree.Tree.{Lvalue}
 use Rattle.refine_heap.specs.pisa_isa.Machine.{Memory}
 use Rattle.refine_heap.specs.paired_code.declared.part.Symbol.{Symbol}
 use Rattle.refine_heap.specs.paired_code.Machine.{Image}

@@ -2,8 +2,8 @@
 ghost use Rattle.std.specs.Prelude.{◌≡◌, ◌≤◌, ◌+◌, ◌*◌, [], ◌++◌, length, IfOk};
 ghost use Rattle.refine_heap.specs.buddy_book.Book.{order_for};
 ghost use Rattle.static_layout.specs.roopl_semantics.Layout.{table_at as address_of};
-ghost use Rattle.rpp_tree.specs.Tree.{index_nodes};
-ghost use Rattle.rpp_tree.specs.Views.{expression_of, lvalue_of, creation_of, source_of};
+ghost use Rattle.refine_heap.specs.rpp_tree.Tree.{index_nodes};
+ghost use Rattle.refine_heap.specs.rpp_tree.Views.{expression_of, lvalue_of, creation_of, source_of};
 ghost use Rattle.static_layout.specs.roopl_semantics.Elements.{index_elements, own_element, read_cost};
 ghost use Rattle.expr_uncompute.specs.register_expressions.Code.{words as words_of};
 ghost use Rattle.expr_uncompute.specs.Code.{place_words as words_of_place};
@@ -20,12 +20,10 @@ use crate::news::new_middle;
 use crate::orders::{fixed_order, order_code};
 use crate::shape::Shape;
 use crate::tables::{class_number, field_count, order_of};
-use code_conventions::memory::EXPRESSION_WORDS;
-use expr_uncompute::{Scope, place_and_value_around, place_around, places_around};
-use paired_code::Piece;
-use rpp_tree::tree::{Expr, Ident, Made, Place};
-use rpp_words::NoMemory;
-use static_layout::table_at;
+use expr_uncompute::{Piece, Scope, place_and_value_around, place_around, places_around};
+use static_layout::memory::EXPRESSION_WORDS;
+use static_layout::tree::{Ident, Made, Place};
+use static_layout::{Expr, NoMemory, table_at};
 use std::alloc::Global;
 
 /// A copy of the reference in the place `source` into the place `target`, which is nil: the count

@@ -4,13 +4,13 @@ ghost use Rattle.refine_heap.specs.paired_code.Code.{unmarked};
 ghost use Rattle.expr_uncompute.specs.register_expressions.Code.{two as two_of, three as three_of, with_word as with_word_of, around};
 ghost use Rattle.object_codegen.specs.Code.{turn_left, srlvx as srlvx_of, andix as andix_of};
 
-use code_conventions::cells::{
+use expr_uncompute::{Piece, mirror, plain, seq};
+use refine_heap::{Cell, Op};
+use static_layout::NoMemory;
+use static_layout::cells::{
     add as add_cell, addi as addi_cell, exch as exch_cell, sltx as sltx_cell, with_word,
     xor as xor_cell, xori as xori_cell,
 };
-use paired_code::{Piece, mirror, plain, seq};
-use pisa_isa::{Cell, Op};
-use rpp_words::NoMemory;
 use std::alloc::Global;
 
 /// `EXCH d s`: exchanges register d with the memory cell that register s addresses.

@@ -5,11 +5,11 @@ ghost use Rattle.object_codegen.specs.Code.{same_words as same_cells, two_places
 
 use crate::cells::{addi, enclosed, exch, xor};
 use crate::guards::{REFERENCE, load, nil_place, some_place};
-use code_conventions::faults::{NIL, NOT_NIL, NOT_SAME};
-use code_conventions::memory::COUNT_WORD;
-use code_conventions::registers::{CONTENT, NOUGHT, OTHER_PLACE, PLACE};
-use paired_code::{Piece, check_differ, check_equal, mirror, seq};
-use rpp_words::NoMemory;
+use expr_uncompute::{Piece, check_differ, check_equal, mirror, seq};
+use static_layout::NoMemory;
+use static_layout::faults::{NIL, NOT_NIL, NOT_SAME};
+use static_layout::memory::COUNT_WORD;
+use static_layout::registers::{CONTENT, NOUGHT, OTHER_PLACE, PLACE};
 use std::alloc::Global;
 
 fn same_words(alloc: Global) -> Result<Piece, NoMemory>

@@ -4,9 +4,9 @@ ghost use Rattle.refine_heap.specs.paired_code.Code.{unmarked};
 ghost use Rattle.object_codegen.specs.Code.{nil_place as nil_cells, some_place as some_cells, load_cells};
 
 use crate::cells::{enclosed, exch, xor};
-use code_conventions::registers::{CONTENT, FIRST_WORD, NOUGHT};
-use paired_code::{Piece, check_equal, check_positive};
-use rpp_words::NoMemory;
+use expr_uncompute::{Piece, check_equal, check_positive};
+use static_layout::NoMemory;
+use static_layout::registers::{CONTENT, FIRST_WORD, NOUGHT};
 use std::alloc::Global;
 
 /// The address of an object or array.

@@ -17,3 +17,7 @@ mod tables;
 
 pub use calls::{array_code, class_code, copy_code, new_code, object_code};
 pub use shape::Shape;
+pub use static_layout::{ClassTable, Text, place_of, tree};
+
+/// An alias hands on this enum, which contains itself: Rattle does not find one that is handed on by `pub use`.
+pub type Stmt = static_layout::Stmt;

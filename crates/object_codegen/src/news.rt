@@ -8,15 +8,15 @@ ghost use Rattle.object_codegen.specs.Code.{mark_cell, mark_fault as fault_of_ma
 use crate::cells::{add, addi, enclosed, exch, sltx, xor, xori};
 use crate::guards::{REFERENCE, load, nil_place};
 use crate::shape::Shape;
-use code_conventions::faults::{
+use expr_uncompute::{Piece, check_equal, check_positive, empty, enter, mirror, seq, turn_while};
+use static_layout::NoMemory;
+use static_layout::faults::{
     CLASS_DIFFERS, COUNT, LENGTH, LENGTH_DIFFERS, NIL, NOT_EMPTY, NOT_NIL,
 };
-use code_conventions::memory::{COUNT_WORD, HEADER_WORDS};
-use code_conventions::registers::{
+use static_layout::memory::{COUNT_WORD, HEADER_WORDS};
+use static_layout::registers::{
     AMOUNT, AT_LENGTH, AT_PLACE, BLOCK, CONTENT, LEFT_TRUTH, NOUGHT, OUTCOME, PLACE, RIGHT_TRUTH,
 };
-use paired_code::{Piece, check_equal, check_positive, empty, enter, mirror, seq, turn_while};
-use rpp_words::NoMemory;
 use std::alloc::Global;
 
 const START: u8 = LEFT_TRUTH;

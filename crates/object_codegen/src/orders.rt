@@ -6,10 +6,10 @@ ghost use Rattle.expr_uncompute.specs.register_expressions.Code.{addi as addi_ce
 ghost use Rattle.object_codegen.specs.Code.{turn_left, srlvx as srlvx_cell, andix as andix_cell, order_bit as bit_cells, order_cells};
 
 use crate::cells::{add, addi, andix, enclosed, rl, sltx, srlvx, xori};
-use code_conventions::memory::HEADER_WORDS;
-use code_conventions::registers::{AT_LENGTH, LEFT_TRUTH, NOUGHT, RIGHT_TRUTH, VALUE};
-use paired_code::{Piece, seq};
-use rpp_words::{NoMemory, wrap_sub};
+use expr_uncompute::{Piece, seq};
+use static_layout::memory::HEADER_WORDS;
+use static_layout::registers::{AT_LENGTH, LEFT_TRUTH, NOUGHT, RIGHT_TRUTH, VALUE};
+use static_layout::{NoMemory, wrap_sub};
 use std::alloc::Global;
 
 const SHIFTED: u8 = LEFT_TRUTH;

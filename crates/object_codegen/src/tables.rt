@@ -1,14 +1,12 @@
 // What the code of objects needs to know of a class.
 ghost use Rattle.std.specs.Prelude.{◌≡◌, ◌≤◌, ◌<◌, ◌+◌, length};
 ghost use Rattle.std.specs.Option.{unwrap_or};
-ghost use Rattle.rpp_tree.specs.Views.{source_of};
+ghost use Rattle.refine_heap.specs.rpp_tree.Views.{source_of};
 ghost use Rattle.refine_heap.specs.class_rules.Classes.{class_number as number_of, class_fields};
 ghost use Rattle.refine_heap.specs.buddy_book.Book.{order_for as least_order};
 
-use class_table::Checked;
-use code_conventions::memory::HEADER_WORDS;
-use rpp_tree::Text;
-use rpp_words::order_for;
+use static_layout::memory::HEADER_WORDS;
+use static_layout::{Checked, Text, order_for};
 
 /// The number of the class of this name; 0 if there is none.
 pub fn class_number(checked: &Checked, name: &Text) -> u32

@@ -12,6 +12,11 @@ mod rows;
 mod span;
 mod writer;
 
+pub use code_conventions::{
+    Cell, Cells, Core, END_CELL, FRAME_WORDS, FieldName, HEAP_CELL, Image, LIST_HEADS, NoMemory,
+    NoteText, Noted, Notes, ORDER_CELL, Op, STACK_CELL, Stop, cells, faults, memory, registers,
+    step,
+};
 pub use part::{StaticWord, Symbol};
 pub use piece::{
     Piece, branch_if, cells_of, check_differ, check_equal, check_positive, check_zero, empty,

@@ -7,8 +7,7 @@ ghost use Rattle.paired_code.specs.Code.{bodies, routine_marks, link_marks, Each
 
 use crate::piece::{Piece, cells_of, marks_in};
 use crate::span::put_marks;
-use pisa_isa::{MOST_CELLS, Mark};
-use rpp_words::NoMemory;
+use code_conventions::{MOST_CELLS, Mark, NoMemory};
 use std::alloc::Global;
 
 /// The marks of the fragments on the cells of the image, in ascending order of their places.

@@ -1,5 +1,5 @@
 // The cells of a fragment before its place and its routines' places are known.
-use pisa_isa::Cell;
+use code_conventions::Cell;
 
 /// A cell of a fragment: an instruction of its own, a call of a routine by its number, or a part of
 /// a call by a register. Such a part is the same in both directions, takes its neighbour's code

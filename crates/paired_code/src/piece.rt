@@ -16,8 +16,7 @@ use crate::row::Row;
 use crate::span::{Span, cover, put_spans};
 use code_conventions::cells::{add, with_word};
 use code_conventions::registers::LINK;
-use pisa_isa::{Cell, LAST_PLACE, Op};
-use rpp_words::{NoMemory, wrap_add};
+use code_conventions::{Cell, LAST_PLACE, NoMemory, Op, wrap_add};
 use std::alloc::Global;
 use std::marker::Model;
 

@@ -4,7 +4,7 @@ ghost use Rattle.paired_code.specs.Stored.{symbols_in};
 
 use crate::part::Symbol;
 use crate::row::Row;
-use rpp_words::NoMemory;
+use code_conventions::NoMemory;
 use std::alloc::Global;
 
 // A row of fewer cells is copied to the end of another, however long that one is.

@@ -2,8 +2,7 @@
 ghost use Rattle.std.specs.Prelude.{◌≡◌, ◌+◌, ◌^◌, ◌≤◌, ◌++◌, OnOk};
 ghost use Rattle.paired_code.specs.Code.{AllWithin, moved_on, shift};
 
-use pisa_isa::{MOST_CELLS, Mark};
-use rpp_words::NoMemory;
+use code_conventions::{MOST_CELLS, Mark, NoMemory};
 use std::marker::Model;
 
 /// The cells from `first` to before `end` of a fragment, and the place of the source that made

@@ -14,8 +14,9 @@ use crate::part::{StaticWord, Symbol};
 use crate::piece::{Piece, bra, cells_of, swapbr};
 use code_conventions::cells::{addi, neg, with_word};
 use code_conventions::registers::LINK;
-use pisa_isa::{Cell, Image, MOST_CELLS, MOST_MARKS, MOST_STATICS, Noted, Notes, Op};
-use rpp_words::NoMemory;
+use code_conventions::{
+    Cell, Image, MOST_CELLS, MOST_MARKS, MOST_STATICS, NoMemory, Noted, Notes, Op,
+};
 use std::alloc::Global;
 
 /// START, `main`, FINISH and then the routines, each in the subroutine form. The marks of the

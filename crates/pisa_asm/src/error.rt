@@ -48,10 +48,10 @@ impl From<AllocError> for AsmError {
     }
 }
 
-impl From<rpp_words::NoMemory> for AsmError {
+impl From<pisa_isa::NoMemory> for AsmError {
     ghost from_gives = { λ _ e. e ≡ NoMemory };
 
-    fn from(_error: rpp_words::NoMemory) -> AsmError {
+    fn from(_error: pisa_isa::NoMemory) -> AsmError {
         AsmError::NoMemory
     }
 }

@@ -9,7 +9,7 @@ ghost use Rattle.pisa_asm.specs.Passes.{label_at, labels_at};
 use crate::error::AsmError;
 use crate::line::{all_but_last, ends_in, next_word};
 use indexmap::IndexMap;
-use rpp_words::Text;
+use pisa_isa::Text;
 use std::alloc::Global;
 
 /// Whether a byte may begin a name.

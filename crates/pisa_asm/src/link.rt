@@ -14,8 +14,7 @@ use crate::label::after_labels;
 use crate::line::{content, first_line};
 use crate::operand::Given;
 use crate::survey::Survey;
-use pisa_isa::Cell;
-use rpp_words::wrap_sub;
+use pisa_isa::{Cell, wrap_sub};
 use std::alloc::Global;
 
 /// An instruction at a code address, with its offset if a label gives it.

@@ -10,8 +10,7 @@ ghost use Rattle.pisa_asm.specs.Listing.{signed_text, offset_text, register_text
 
 use crate::mnemonic::mnemonic;
 use crate::operand::{Last, has_registers, last_of};
-use pisa_isa::{Cell, FieldName, Mark, Noted};
-use rpp_words::{NoMemory, wrap_sub};
+use pisa_isa::{Cell, FieldName, Mark, NoMemory, Noted, wrap_sub};
 use std::alloc::{AllocError, Global};
 
 /// Adds a word in signed decimal.

@@ -2,7 +2,7 @@
 ghost use Rattle.std.specs.Prelude.{◌≡◌, ◌<◌, ◌≤◌, ◌^◌, IfSome};
 ghost use Rattle.pisa_asm.specs.Numerals.{below, minus, numeral, number_in, word_number, unsigned_number, amount_number, offset_number, plain_digits, register_number};
 
-use rpp_words::wrap_sub;
+use pisa_isa::wrap_sub;
 
 /// The number that these digits write, if it is below the end.
 fn number_below(end: u64, digits: &[u8]) -> Option<u32>

@@ -12,8 +12,7 @@ use crate::error::AsmError;
 use crate::label::is_name;
 use crate::line::next_word;
 use crate::number::{amount_number, offset_number, register_number, word_number};
-use pisa_isa::{Cell, Op};
-use rpp_words::Text;
+use pisa_isa::{Cell, Op, Text};
 use std::alloc::Global;
 
 /// What an instruction has after its registers.

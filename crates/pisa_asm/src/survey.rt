@@ -12,8 +12,7 @@ use crate::item::{Item, item_from};
 use crate::label::{after_labels, note_labels, place_of};
 use crate::line::{content, first_line};
 use indexmap::IndexMap;
-use pisa_isa::{MOST_CELLS, MOST_STATICS};
-use rpp_words::Text;
+use pisa_isa::{MOST_CELLS, MOST_STATICS, Text};
 use std::alloc::Global;
 use std::marker::Model;
 

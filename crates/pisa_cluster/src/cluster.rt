@@ -7,8 +7,7 @@ ghost use Rattle.pisa_cluster.specs.Schedules.{Schedule, first_schedule, IsClust
 
 use crate::processor::{Common, Kept, Processor};
 use crate::search::{last_step, next_touch, steps_after};
-use pisa_isa::{Core, Image, Stop};
-use rpp_words::NoMemory;
+use pisa_isa::{Core, Image, NoMemory, Stop};
 use std::alloc::Global;
 use std::marker::Model;
 

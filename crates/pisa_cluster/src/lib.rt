@@ -11,4 +11,5 @@ mod search;
 
 pub use cluster::{Cluster, Moved, Undone};
 pub use laws::{last_step_is_free, schedules_replay};
+pub use pisa_isa::{Core, Image, Stop};
 pub use processor::{Kept, Processor};

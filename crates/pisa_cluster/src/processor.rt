@@ -4,8 +4,7 @@ ghost use Rattle.pisa_isa.specs.Image.{IsImage};
 ghost use Rattle.pisa_isa.specs.Machine.{State, stop, next, IsState, IsNext};
 ghost use Rattle.pisa_cluster.specs.Replay.{started_processor, touches, processor_state, in_state};
 
-use pisa_isa::{Cells, Core, Image, Op, Stop, step, unstep};
-use rpp_words::NoMemory;
+use pisa_isa::{Cells, Core, Image, NoMemory, Op, Stop, step, unstep};
 use std::alloc::Global;
 
 /// A processor: its image, and its place, branch register, direction and registers.

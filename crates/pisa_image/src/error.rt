@@ -44,10 +44,10 @@ impl From<AllocError> for ImageError {
     }
 }
 
-impl From<rpp_words::NoMemory> for ImageError {
+impl From<pisa_isa::NoMemory> for ImageError {
     ghost from_gives = { λ _ e. e ≡ NoMemory };
 
-    fn from(_: rpp_words::NoMemory) -> Self {
+    fn from(_: pisa_isa::NoMemory) -> Self {
         ImageError::NoMemory
     }
 }

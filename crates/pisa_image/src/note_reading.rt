@@ -10,10 +10,9 @@ ghost use Rattle.pisa_image.specs.Reading.{ImageGives, number_between, tested_by
 use crate::error::ImageError;
 use crate::reading::{OLD_VERSION, number_between};
 use pisa_isa::{
-    FieldName, LAST_PLACE, MOST_CELLS, MOST_MARKS, MOST_NAME_BYTES, MOST_NAMES, MOST_STATICS, Mark,
-    NoteText, Notes,
+    FIXED_CELLS, FieldName, LAST_PLACE, MOST_CELLS, MOST_MARKS, MOST_NAME_BYTES, MOST_NAMES,
+    MOST_STATICS, Mark, NoteText, Notes, is_name_byte,
 };
-use rpp_words::{FIXED_CELLS, is_name_byte};
 use std::alloc::Global;
 
 /// The notes after so many code cells and static cells, if the version has them, and the offset

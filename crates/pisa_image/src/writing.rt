@@ -9,8 +9,7 @@ ghost use Rattle.pisa_image.specs.Reading.{image_at};
 use crate::note_writing::add_notes;
 use crate::reading::VERSION;
 use crate::rows::number_of;
-use pisa_isa::{Cell, Noted};
-use rpp_words::NoMemory;
+use pisa_isa::{Cell, NoMemory, Noted};
 use std::alloc::{AllocError, Global};
 
 /// Puts the four bytes of a number at the end, the lowest first.

@@ -23,3 +23,8 @@ pub use notes::{
     FieldName, LAST_PLACE, MOST_MARKS, MOST_NAME_BYTES, MOST_NAMES, Mark, NoteText, Noted, Notes,
     fits, is_name, mark_fits, name_fits,
 };
+pub use rpp_words::{
+    FIXED_CELLS, FRAME_WORDS, FieldWord, HEADER_WORDS, Input, Limits, MOST_DEEP, MOST_HEAP,
+    NoMemory, Text, is_name_byte, less, shift_left, shift_right, shift_right_signed, turn_left,
+    turn_right, wrap_add, wrap_sub,
+};

@@ -2,8 +2,8 @@
 use Rattle.std.proofs.Common.{◌≡◌, ◌∙◌, ℕ, ◌+◌, ◌-◌, ◌*◌, ◌<◌, ◌≤◌, min, List, length, get_or, drop, arith}
 use Rattle.std.proofs.Common.{ap, sym, inl, inr}
 use Rattle.std.proofs.lemmas.Bool.{cases_lt}
-use Rattle.rpp_words.specs.Texts.{decimal_from}
-use Rattle.rpp_words.proofs.Decimals.{decimal_from-grows, decimal_from-drop}
+use Rattle.pisa_machine.specs.rpp_words.Texts.{decimal_from}
+use Rattle.pisa_machine.proofs.rpp_words_laws.Decimals.{decimal_from-grows, decimal_from-drop}
 
 -- past the cap, more digits do not matter
 capped : (cap before : ℕ) (digits : List ℕ) → min (decimal_from (min before cap) digits) cap

@@ -5,7 +5,7 @@ use Rattle.std.specs.Prelude.{nat_eq, ◌⊎◌}
 use Rattle.std.specs.List.{prefix_len, take_while, list_all}
 use Rattle.std.specs.Option.{option_and_then}
 use Rattle.std.specs.Char.{is_ascii_alphabetic, is_ascii_digit}
-use Rattle.rpp_words.specs.Names.{is_name_byte}
+use Rattle.pisa_machine.specs.rpp_words.Names.{is_name_byte}
 use Rattle.std.proofs.lemmas.Bool.{eqb-true, false_from_ne_true, true_from_ne_false, and_parts}
 use Rattle.std.proofs.lemmas.Bool.Decides.{nat_tests}
 use Rattle.std.proofs.lemmas.Option.{cond_some}
@@ -13,7 +13,7 @@ use Rattle.std.proofs.lemmas.List.{take_at, drop_at, take-append-drop}
 use Rattle.std.proofs.lemmas.List.Sums.{take_while-cons}
 use Rattle.pisa_loader.specs.InputLines.{is_blank, behind, after, word_up_to, digits_word, number_word, entry_in, Entry}
 use Rattle.pisa_loader.specs.InputLines.{entry}
-use Rattle.rpp_words.specs.Texts.{decimal_from}
+use Rattle.pisa_machine.specs.rpp_words.Texts.{decimal_from}
 use Rattle.pisa_loader.specs.InputGrammar.{are_blanks, is_input_name, is_numeral, sign, Parts, input_line, AreParts, Sets}
 
 either : (b c : Bool) → (b || c) ≡ true → (b ≡ true) ⊎ (c ≡ true)

@@ -5,7 +5,7 @@ use Rattle.std.specs.List.{slice_split}
 use Rattle.std.proofs.lemmas.List.{nil_from_length, length-map, drop_more}
 use Rattle.std.proofs.lemmas.List.Splits.{length-slice_split}
 use Rattle.std.proofs.lemmas.List.Sums.{count_by-le-length}
-use Rattle.rpp_words.specs.declared.input.FieldWord.{FieldWord}
+use Rattle.pisa_machine.specs.rpp_words.declared.input.FieldWord.{FieldWord}
 use Rattle.pisa_loader.specs.declared.error.LoadError.{LoadError}
 use Rattle.pisa_loader.specs.declared.input.InputField.{InputField}
 use Rattle.pisa_loader.specs.InputLines.{line_word, with_field_word, words_from}

@@ -6,7 +6,7 @@ use Rattle.std.proofs.lemmas.Bool.{eqb-true}
 use Rattle.std.proofs.lemmas.Bool.Decides.{nat_tests}
 use Rattle.std.proofs.lemmas.List.{append-nil, nil_from_length}
 use Rattle.std.proofs.lemmas.List.Elements.{All-from_recursion, recursion_from_All}
-use Rattle.rpp_words.specs.Words.{IsWord}
+use Rattle.pisa_machine.specs.rpp_words.Words.{IsWord}
 use Rattle.pisa_machine.specs.pisa_isa.Image.{Segments}
 use Rattle.pisa_machine.specs.pisa_isa.Machine.{IsState, Memory}
 use Rattle.pisa_image.proofs.pisa_isa_laws.Keeps.{steps-IsState}

@@ -8,9 +8,9 @@ use Rattle.std.proofs.lemmas.Bool.{eq-eqb, and_parts}
 use Rattle.std.proofs.lemmas.Bool.Decides.{nat_tests}
 use Rattle.std.proofs.lemmas.Option.{cond_some}
 use Rattle.std.proofs.lemmas.List.Elements.{All-append, All-cons}
-use Rattle.rpp_words.specs.Words.{IsWord, negated}
-use Rattle.rpp_words.specs.declared.input.FieldWord.{FieldWord}
-use Rattle.rpp_words.specs.declared.input.Input.{Input}
+use Rattle.pisa_machine.specs.rpp_words.Words.{IsWord, negated}
+use Rattle.pisa_machine.specs.rpp_words.declared.input.FieldWord.{FieldWord}
+use Rattle.pisa_machine.specs.rpp_words.declared.input.Input.{Input}
 use Rattle.pisa_image.proofs.Many.{bind_ok}
 use Rattle.pisa_loader.specs.declared.error.LoadError.{LoadError}
 use Rattle.pisa_loader.specs.declared.error.LoadError.TheVariants.{UnknownField}
@@ -18,7 +18,7 @@ use Rattle.pisa_loader.specs.declared.input.InputField.{InputField}
 use Rattle.pisa_loader.specs.States.{Gives}
 use Rattle.pisa_loader.specs.InputLines.{is_blank, word_up_to, entry_in, Entry, field_named, is_set, next_word, entry_word}
 use Rattle.pisa_loader.specs.InputLines.{line_word, with_field_word, words_from, input_of, is_field, set_none_twice, AreInput}
-use Rattle.rpp_words.specs.Texts.{decimal_from}
+use Rattle.pisa_machine.specs.rpp_words.Texts.{decimal_from}
 use Rattle.pisa_loader.proofs.InputForm.{line_found}
 
 or_true : (b c : Bool) → c ≡ true → (b || c) ≡ true

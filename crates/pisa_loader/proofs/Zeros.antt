@@ -1,9 +1,9 @@
 -- The zeros after the first cells of a run.
 use Rattle.std.proofs.Common.{◌≡◌, ◌∙◌, sym, ap, ℕ, ◌+◌, ◌-◌, ◌*◌, ◌^◌, List, ◌++◌, length, replicate, append_assoc}
 use Rattle.std.proofs.lemmas.List.{replicate-append-replicate}
-use Rattle.rpp_words.specs.declared.input.FieldWord.{FieldWord}
-use Rattle.rpp_words.specs.declared.input.Limits.{Limits}
-use Rattle.rpp_words.specs.declared.input.TheConstants.{FIXED_CELLS, FRAME_WORDS}
+use Rattle.pisa_machine.specs.rpp_words.declared.input.FieldWord.{FieldWord}
+use Rattle.pisa_machine.specs.rpp_words.declared.input.Limits.{Limits}
+use Rattle.pisa_machine.specs.rpp_words.declared.input.TheConstants.{FIXED_CELLS, FRAME_WORDS}
 use Rattle.pisa_machine.specs.pisa_isa.Loaded.{loaded, heap_base, fixed_cells, empty_heads, with_words}
 
 -- zeros after zeros

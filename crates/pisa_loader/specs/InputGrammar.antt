@@ -2,9 +2,9 @@
 use Rattle.std.specs.Prelude.{◌≡◌, ℕ, Bool, true, false, ◌&&◌, List, [], ◌∷◌, ◌++◌, Some}
 use Rattle.std.specs.List.{list_all}
 use Rattle.std.specs.Char.{is_ascii_alphabetic, is_ascii_digit}
-use Rattle.rpp_words.specs.Names.{is_name_byte}
+use Rattle.pisa_machine.specs.rpp_words.Names.{is_name_byte}
 use Rattle.pisa_loader.specs.InputLines.{is_blank, word_up_to}
-use Rattle.rpp_words.specs.Texts.{decimal_from}
+use Rattle.pisa_machine.specs.rpp_words.Texts.{decimal_from}
 
 -- only spaces and tabs
 abbrev pub are_blanks : List ℕ → Bool

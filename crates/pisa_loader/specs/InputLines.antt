@@ -6,10 +6,10 @@ use Rattle.std.specs.List.{prefix_len, take_while, list_all, list_any, slice_spl
 use Rattle.std.specs.Option.{option_and_then}
 use Rattle.std.specs.Char.{is_ascii_alphabetic, is_ascii_digit}
 use Rattle.std.specs.Str.{bytes_eq}
-use Rattle.rpp_words.specs.declared.input.FieldWord.{FieldWord}
-use Rattle.rpp_words.specs.Words.{IsWord, negated}
-use Rattle.rpp_words.specs.Texts.{decimal_from}
-use Rattle.rpp_words.specs.Names.{is_name_byte}
+use Rattle.pisa_machine.specs.rpp_words.declared.input.FieldWord.{FieldWord}
+use Rattle.pisa_machine.specs.rpp_words.Words.{IsWord, negated}
+use Rattle.pisa_machine.specs.rpp_words.Texts.{decimal_from}
+use Rattle.pisa_machine.specs.rpp_words.Names.{is_name_byte}
 use Rattle.pisa_image.specs.Numbers.{◌>>=◌}
 use Rattle.pisa_loader.specs.declared.error.LoadError.{LoadError}
 use Rattle.pisa_loader.specs.declared.error.LoadError.TheVariants.{UnknownField, BadInputLine}

@@ -1,7 +1,7 @@
 -- What a byte of a line may be.
 use Rattle.std.specs.Prelude.{ℕ, Bool}
 use Rattle.std.specs.Char.{is_ascii_alphabetic, is_ascii_digit}
-use Rattle.rpp_words.specs.Names.{is_name_byte}
+use Rattle.pisa_machine.specs.rpp_words.Names.{is_name_byte}
 use Rattle.pisa_loader.specs.declared.lines.Kind.{Kind}
 use Rattle.pisa_loader.specs.declared.lines.Kind.TheVariants.{Blank, Letter, InName, Digit}
 use Rattle.pisa_loader.specs.InputLines.{is_blank}

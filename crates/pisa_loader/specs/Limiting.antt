@@ -1,10 +1,10 @@
 -- The limits of a run, and the size of its memory.
 use Rattle.std.specs.Prelude.{ℕ, ◌+◌, ◌*◌, ◌^◌, ◌<◌, Bool, ◌||◌, nat_eq, nat_lt, List, All}
 use Rattle.std.specs.Prelude.{length, Option, Some, None, if◌then◌else◌}
-use Rattle.rpp_words.specs.declared.input.FieldWord.{FieldWord}
-use Rattle.rpp_words.specs.declared.input.Limits.{Limits}
+use Rattle.pisa_machine.specs.rpp_words.declared.input.FieldWord.{FieldWord}
+use Rattle.pisa_machine.specs.rpp_words.declared.input.Limits.{Limits}
 use Rattle.pisa_machine.specs.pisa_isa.Loaded.{heap_base}
-use Rattle.rpp_words.specs.declared.input.TheConstants.{MOST_HEAP, FRAME_WORDS, HEADER_WORDS}
+use Rattle.pisa_machine.specs.rpp_words.declared.input.TheConstants.{MOST_HEAP, FRAME_WORDS, HEADER_WORDS}
 use Rattle.pisa_loader.specs.declared.error.LoadError.{LoadError}
 use Rattle.pisa_loader.specs.declared.error.LoadError.TheVariants.{HeapOrder, DeepRange}
 

@@ -1,7 +1,7 @@
 -- The bytes of a state file, and how they are read, with the first refusal.
 use Rattle.std.specs.Prelude.{◌≡◌, ℕ, ◌+◌, ◌*◌, List, ◌++◌, All, length, codes, Result, Ok, Err}
 use Rattle.std.specs.Prelude.{nat_eq, if◌then◌else◌}
-use Rattle.rpp_words.specs.Words.{IsWord}
+use Rattle.pisa_machine.specs.rpp_words.Words.{IsWord}
 use Rattle.pisa_machine.specs.pisa_isa.Image.{Segments}
 use Rattle.pisa_machine.specs.pisa_isa.Machine.{Memory}
 use Rattle.pisa_machine.specs.Position.{Position, first_position}

@@ -4,7 +4,7 @@ ghost use Rattle.pisa_loader.specs.declared.error.LoadError.TheVariants.{NoMemor
 ghost use Rattle.pisa_loader.specs.States.{load_refusal};
 
 use pisa_image::NumberError;
-use rpp_words::NoMemory as WantOfMemory;
+use pisa_machine::NoMemory as WantOfMemory;
 use std::alloc::{AllocError, AllocFailed};
 use thiserror::Error;
 

@@ -6,7 +6,7 @@ ghost use Rattle.pisa_loader.specs.States.{Gives};
 
 use crate::error::LoadError;
 use crate::lines::{entry_in, is_blank_line};
-use rpp_words::{FieldWord, Input, Text};
+use pisa_machine::{FieldWord, Input, Text};
 use std::alloc::{AllocError, Global};
 
 /// The most bytes of an input.

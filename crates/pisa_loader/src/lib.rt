@@ -17,4 +17,5 @@ pub use input::{InputField, MOST_INPUT, read_input};
 pub use laws::lines_have_one_form;
 pub use limits::check_limits;
 pub use memory::{load, load_more};
+pub use pisa_image::{ImageError, OLD_VERSION, VERSION, read_image, write_image};
 pub use state::{load_state, save_state};

@@ -3,7 +3,7 @@ ghost use Rattle.std.specs.Prelude.{◌≡◌, ◌≤◌, IfOk, MatchResult, Som
 ghost use Rattle.pisa_loader.specs.Limiting.{limits_refusal};
 
 use crate::error::LoadError;
-use rpp_words::{Limits, MOST_HEAP};
+use pisa_machine::{Limits, MOST_HEAP};
 
 /// The limits of a run, with an order of the heap from 1 to 20 and a depth from 1 to `most`. The
 /// order is tried first.

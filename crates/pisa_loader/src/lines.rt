@@ -3,9 +3,9 @@ ghost use Rattle.std.specs.Prelude.{◌≡◌, ◌≤◌, ◌^◌, ◌+◌, min,
 ghost use Rattle.std.specs.List.{prefix_len, take_while, list_all};
 ghost use Rattle.pisa_loader.specs.InputLines.{is_blank, behind, after, word_up_to, digits_word, number_word, entry_in, Entry, entry};
 ghost use Rattle.pisa_loader.specs.Kinds.{is_of};
-ghost use Rattle.rpp_words.specs.Texts.{decimal_from};
+ghost use Rattle.pisa_machine.specs.rpp_words.Texts.{decimal_from};
 
-use rpp_words::wrap_sub;
+use pisa_machine::wrap_sub;
 
 /// What a byte of a line may be.
 #[derive(Clone, Copy, Debug, PartialEq, Eq)]

@@ -1,16 +1,17 @@
 // The memory that a run begins with.
 ghost use Rattle.std.specs.Prelude.{◌≡◌, ◌≤◌, ◌<◌, ◌+◌, ◌-◌, ◌*◌, ◌/◌, ◌++◌, ◌^◌, All, length, replicate, vec_len, IfOk, OnOk};
-ghost use Rattle.rpp_words.specs.Words.{IsWord};
+ghost use Rattle.pisa_machine.specs.rpp_words.Words.{IsWord};
 ghost use Rattle.pisa_machine.specs.pisa_isa.Loaded.{loaded, heap_base as base_of, fixed_cells, empty_heads, with_words};
 ghost use Rattle.pisa_machine.specs.pisa_isa.Image.{IsImage};
 ghost use Rattle.pisa_machine.specs.pisa_isa.Runs.{zero_registers};
 ghost use Rattle.pisa_machine.specs.Position.{first_position};
 ghost use Rattle.pisa_loader.specs.Limiting.{IsInputOf, memory_size};
-ghost use Rattle.rpp_words.specs.Limits.{IsLimits};
+ghost use Rattle.pisa_machine.specs.rpp_words.Limits.{IsLimits};
 
-use pisa_isa::{Image, MOST_STATICS};
-use pisa_machine::Machine;
-use rpp_words::{FIXED_CELLS, FRAME_WORDS, FieldWord, HEADER_WORDS, Input, Limits, NoMemory};
+use pisa_machine::{
+    FIXED_CELLS, FRAME_WORDS, FieldWord, HEADER_WORDS, Image, Input, Limits, MOST_STATICS, Machine,
+    NoMemory,
+};
 use std::alloc::{AllocError, Global};
 
 /// A machine at the start of a run of an image: an empty heap, zero registers, and the input's words

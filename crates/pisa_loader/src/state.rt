@@ -1,19 +1,17 @@
 // States: the registers and the data cells of a machine as bytes.
 ghost use Rattle.std.specs.Prelude.{◌≡◌, ◌≤◌, ◌<◌, ◌+◌, ◌*◌, ◌^◌, ◌++◌, ℕ, List, All, length, slice_index, vec_len, IfOk, OnOk, Ok};
-ghost use Rattle.rpp_words.specs.Words.{IsWord};
+ghost use Rattle.pisa_machine.specs.rpp_words.Words.{IsWord};
 ghost use Rattle.pisa_machine.specs.Position.{first_position, IsMachine};
 ghost use Rattle.pisa_image.specs.Numbers.{words_bytes};
 ghost use Rattle.pisa_loader.specs.Limiting.{memory_size};
-ghost use Rattle.rpp_words.specs.Limits.{IsLimits};
+ghost use Rattle.pisa_machine.specs.rpp_words.Limits.{IsLimits};
 ghost use Rattle.pisa_machine.specs.pisa_isa.Machine.{Memory};
 ghost use Rattle.pisa_loader.specs.States.{Gives, loaded_memory, IsMemory, state_bytes, known_word, state_at, at_start};
 
 use crate::error::LoadError;
 use crate::memory::memory_size;
 use pisa_image::{add_word, add_words, word_at, words_at};
-use pisa_isa::Image;
-use pisa_machine::Machine;
-use rpp_words::{Limits, NoMemory};
+use pisa_machine::{Image, Limits, Machine, NoMemory};
 use std::alloc::{AllocError, Global};
 
 /// The first four bytes of a state, `RPPS`, as a number.

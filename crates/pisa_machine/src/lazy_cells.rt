@@ -2,8 +2,7 @@
 ghost use Rattle.std.specs.Prelude.{◌≡◌, ◌<◌, ◌≤◌, ◌+◌, ◌^◌, ◌++◌, replicate, length, vec_len, vec_capacity, slice_get, slice_set, slice_index, IfOk};
 ghost use Rattle.pisa_machine.specs.Reached.{words_of};
 
-use pisa_isa::Cells;
-use rpp_words::NoMemory;
+use pisa_isa::{Cells, NoMemory};
 
 /// How many more cells are stored when a run reaches one.
 const MORE_CELLS: u32 = 4096;

@@ -13,5 +13,10 @@ mod steps;
 mod telling;
 
 pub use machine::{Machine, word_at};
+pub use pisa_isa::{
+    FIXED_CELLS, FRAME_WORDS, FieldWord, HEADER_WORDS, Image, Input, Limits, MOST_DEEP, MOST_HEAP,
+    MOST_STATICS, NoMemory, Stop, Text, wrap_sub,
+};
+pub use rpp_probes::{Coverage, DeepestPlace, Probe, Probes, StepAt, StepTally};
 pub use run::RunEnd;
 pub use steps::Steps;

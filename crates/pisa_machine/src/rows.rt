@@ -7,9 +7,9 @@ ghost use Rattle.pisa_isa.specs.Machine.{below_zero, stride, place_moved, stop_i
 ghost use Rattle.pisa_isa.specs.Directions.{row_by, has_cell_at, sum_by, turned_by, offset_by, stop_by};
 ghost use Rattle.pisa_machine.specs.Ways.{state_with, stop_of, back_behind};
 
-use pisa_isa::{Cell, Cells, Op, Stop};
-use rpp_words::{
-    less, shift_left, shift_right, shift_right_signed, turn_left, turn_right, wrap_add, wrap_sub,
+use pisa_isa::{
+    Cell, Cells, Op, Stop, less, shift_left, shift_right, shift_right_signed, turn_left,
+    turn_right, wrap_add, wrap_sub,
 };
 
 /// What comes of a row.

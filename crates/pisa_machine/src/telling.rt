@@ -8,9 +8,8 @@ ghost use Rattle.rpp_probes.specs.Tally.{left_after, lines_after, AreSureFor, Is
 use crate::machine::Machine;
 use crate::run::{RunEnd, steps_of};
 use crate::steps::Steps;
-use pisa_isa::Stop;
+use pisa_isa::{NoMemory, Stop};
 use rpp_probes::{Probes, StepAt};
-use rpp_words::NoMemory;
 use std::alloc::Global;
 use std::sync::ledger::Ledger;
 

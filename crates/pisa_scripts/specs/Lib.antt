@@ -1,5 +1,5 @@
-pub use Rattle.pisa_isa.specs.rpp_words
-pub use Rattle.pisa_isa.specs as pisa_isa
+pub use Rattle.code_conventions.specs.rpp_words
+pub use Rattle.code_conventions.specs.pisa_isa
 pub mod Lines
 pub mod Words
 pub mod Stops

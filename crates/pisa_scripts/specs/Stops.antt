@@ -1,10 +1,10 @@
 -- The lines on why a machine stopped.
 use Rattle.std.specs.Prelude.{ℕ, List, ◌++◌, codes}
 use Rattle.std.specs.Fmt.{decimal, signed_decimal}
-use Rattle.pisa_isa.specs.declared.machine.Stop.{Stop}
-use Rattle.pisa_isa.specs.declared.machine.Stop.TheVariants.{Finished, Returned, Trap, BadAddress}
-use Rattle.pisa_isa.specs.declared.machine.Stop.TheVariants.{OffCode, Bound}
-use Rattle.pisa_isa.specs.rpp_words.Texts.{line_end}
+use Rattle.code_conventions.specs.pisa_isa.declared.machine.Stop.{Stop}
+use Rattle.code_conventions.specs.pisa_isa.declared.machine.Stop.TheVariants.{Finished, Returned, Trap, BadAddress}
+use Rattle.code_conventions.specs.pisa_isa.declared.machine.Stop.TheVariants.{OffCode, Bound}
+use Rattle.code_conventions.specs.rpp_words.Texts.{line_end}
 use Rattle.pisa_scripts.specs.Words.{word_shown}
 use Rattle.code_conventions.specs.Faults.{fault_name}
 

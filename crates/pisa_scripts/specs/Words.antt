@@ -2,8 +2,8 @@
 use Rattle.std.specs.Prelude.{ℕ, suc, Bool, true, false, nat_eq, if◌then◌else◌, List, [], ◌∷◌, ◌++◌}
 use Rattle.std.specs.Prelude.{codes}
 use Rattle.std.specs.Fmt.{decimal, signed_decimal}
-use Rattle.pisa_isa.specs.rpp_words.Words.{signed}
-use Rattle.pisa_isa.specs.rpp_words.Texts.{line_end}
+use Rattle.code_conventions.specs.rpp_words.Words.{signed}
+use Rattle.code_conventions.specs.rpp_words.Texts.{line_end}
 
 -- a word in signed decimal
 abbrev pub word_shown : ℕ → List ℕ

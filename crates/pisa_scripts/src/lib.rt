@@ -9,6 +9,7 @@ mod numbers;
 mod stops;
 mod words;
 
+pub use code_conventions::{Cell, MOST_CELLS, Noted, Op, Stop};
 pub use command::Command;
 pub use lines::{MOST_SCRIPT, is_blank, pieces, without_returns};
 pub use numbers::{LAST_POSITION, MOST_DIGITS, number_up_to, short_number};

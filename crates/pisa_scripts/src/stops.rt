@@ -2,8 +2,8 @@
 ghost use Rattle.std.specs.Prelude.{◌≡◌, ◌++◌, OnOk, OnErr, string_bytes};
 ghost use Rattle.pisa_scripts.specs.Stops.{stop_line};
 
+use code_conventions::Stop;
 use code_conventions::faults::fault_name;
-use pisa_isa::Stop;
 use std::alloc::AllocError;
 
 /// Adds the line on why a machine stopped. If memory runs out, the text is as before.

@@ -7,8 +7,7 @@ ghost use Rattle.command_plan.specs.Reads.{Gave, Asks};
 ghost use Rattle.plan_serving.specs.Places.{HasPlaces, IsBefore, held_bytes};
 ghost use Rattle.plan_serving.specs.Wanted.{file_of};
 
-use command_plan::{NoPlan, read_file};
-use rpp_ports::{Named, Shelf};
+use command_plan::{Named, NoPlan, Shelf, read_file};
 use std::alloc::Global;
 
 /// A file that is to be read, and how many bytes it may have.

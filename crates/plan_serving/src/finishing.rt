@@ -9,8 +9,7 @@ ghost use Rattle.plan_serving.specs.Outside.{HasWritten, HasPut};
 ghost use Rattle.plan_serving.specs.Finishes.{unwritten, FailsToWrite, CannotWrite, Finishes, put_answer, ended_status};
 ghost use Rattle.plan_serving.specs.Left.{Leaves, Tries, LeavesUnwritten, AbortsServing, KeepsButTarget};
 
-use command_plan::{Broken, Plan, Writing};
-use rpp_ports::{Shelf, ShelfFault, Sink, SinkFault};
+use command_plan::{Broken, Plan, Shelf, ShelfFault, Sink, SinkFault, Writing};
 use std::alloc::{AllocError, Global};
 
 /// Prints a text.

@@ -2,7 +2,7 @@
 ghost use Rattle.std.specs.Prelude.{◌≡◌, []};
 ghost use Rattle.command_plan.specs.rpp_ports.Shelves.{shelf_failing};
 
-use rpp_ports::{MemoryShelf, Named, Shelf, ShelfFault};
+use command_plan::{MemoryShelf, Named, Shelf, ShelfFault};
 use std::alloc::Global;
 
 /// A file store of texts in memory. No call of it ever fails, unless there is no memory.

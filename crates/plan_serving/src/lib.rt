@@ -7,6 +7,9 @@ mod finishing;
 mod held_shelf;
 mod placing;
 
+pub use command_plan::{
+    FileShelf, MOST_INPUT, MemoryShelf, MemorySink, Named, NoMemory, OutSink, Shelf, Sink, limits,
+};
 pub use fetching::{Wanted, fetch};
 pub use finishing::{finish, say};
 pub use held_shelf::HeldShelf;

@@ -4,13 +4,13 @@ use Rattle.std.proofs.Common.{arith, slice_get}
 use Rattle.std.specs.Prelude.{All}
 use Rattle.std.specs.List.{flat_map}
 use Rattle.std.specs.Option.{unwrap_or}
-use Rattle.rpp_tree.specs.declared.tree.Program.{Program}
-use Rattle.rpp_tree.specs.declared.tree.Var.{Var}
-use Rattle.rpp_tree.specs.declared.limits.TheConstants.{MOST_BYTES}
-use Rattle.rpp_tree.specs.Parts.{name_places, parent_names, var_places, block_places, procedure_places, class_places}
-use Rattle.rpp_tree.specs.Parts.{source_places}
-use Rattle.rpp_tree.specs.Tree.{Procedure, ClassText, Source}
-use Rattle.rpp_tree.specs.Views.{source_of}
+use Rattle.refine_program.specs.rpp_tree.declared.tree.Program.{Program}
+use Rattle.refine_program.specs.rpp_tree.declared.tree.Var.{Var}
+use Rattle.refine_program.specs.rpp_tree.declared.limits.TheConstants.{MOST_BYTES}
+use Rattle.refine_program.specs.rpp_tree.Parts.{name_places, parent_names, var_places, block_places, procedure_places, class_places}
+use Rattle.refine_program.specs.rpp_tree.Parts.{source_places}
+use Rattle.refine_program.specs.rpp_tree.Tree.{Procedure, ClassText, Source}
+use Rattle.refine_program.specs.rpp_tree.Views.{source_of}
 use Rattle.refine_program.specs.class_rules.declared.method.MethodId.{MethodId}
 use Rattle.refine_program.specs.class_rules.Members.{class_at, no_procedure}
 use Rattle.refine_program.specs.class_rules.Classes.{procedure_at}

@@ -4,8 +4,8 @@ use Rattle.std.proofs.Common.{length-append}
 use Rattle.std.specs.Prelude.{sum_by}
 use Rattle.std.specs.List.{AllZip}
 use Rattle.std.proofs.lemmas.List.Sums.{sum_by-cons, sum_by-append}
-use Rattle.rpp_tree.specs.Parts.{procedure_tokens, class_tokens, source_tokens}
-use Rattle.rpp_tree.specs.Tree.{Procedure, ClassText, Source}
+use Rattle.refine_program.specs.rpp_tree.Parts.{procedure_tokens, class_tokens, source_tokens}
+use Rattle.refine_program.specs.rpp_tree.Tree.{Procedure, ClassText, Source}
 use Rattle.refine_program.specs.class_rules.Members.{class_at}
 use Rattle.refine_program.proofs.class_rules_laws.InheritedSlots.{class_there}
 use Rattle.refine_program.specs.paired_code.Code.{Code, bodies, marks_size}

@@ -4,9 +4,9 @@ use Rattle.std.proofs.Common.{get_or, slice_get, Some, arith, append-nil, append
 use Rattle.std.specs.List.{AllZip}
 use Rattle.std.proofs.lemmas.List.{map-append, take_more, length-take-le}
 use Rattle.std.proofs.lemmas.Option.{slice_get_within, get_or_from_slice_get}
-use Rattle.rpp_tree.specs.declared.tree.Method.{Method}
-use Rattle.rpp_tree.specs.Tree.{Procedure, ClassText, Source}
-use Rattle.rpp_tree.specs.Views.{procedure_of}
+use Rattle.refine_program.specs.rpp_tree.declared.tree.Method.{Method}
+use Rattle.refine_program.specs.rpp_tree.Tree.{Procedure, ClassText, Source}
+use Rattle.refine_program.specs.rpp_tree.Views.{procedure_of}
 use Rattle.refine_program.specs.paired_code.Code.{Code, bodies}
 use Rattle.refine_program.specs.Methods.{RoutineEntry, entries_of, entries_from}
 use Rattle.refine_program.specs.Laws.{AreRoutineCodes}

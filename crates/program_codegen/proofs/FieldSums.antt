@@ -7,10 +7,10 @@ use Rattle.std.specs.List.{flat_map}
 use Rattle.std.specs.Option.{unwrap_or}
 use Rattle.std.proofs.lemmas.Bool.{eqb-false}
 use Rattle.std.proofs.lemmas.List.Sums.{sum_by-cons, sum_by-append, sum_by_push}
-use Rattle.rpp_tree.specs.declared.tree.Ident.{Ident}
-use Rattle.rpp_tree.specs.declared.tree.Var.{Var}
-use Rattle.rpp_tree.specs.Parts.{type_names, var_names, procedure_names, parent_names, class_names, source_names}
-use Rattle.rpp_tree.specs.Tree.{ClassText, Source}
+use Rattle.refine_program.specs.rpp_tree.declared.tree.Ident.{Ident}
+use Rattle.refine_program.specs.rpp_tree.declared.tree.Var.{Var}
+use Rattle.refine_program.specs.rpp_tree.Parts.{type_names, var_names, procedure_names, parent_names, class_names, source_names}
+use Rattle.refine_program.specs.rpp_tree.Tree.{ClassText, Source}
 use Rattle.refine_program.specs.class_rules.Chains.{parents, chain, chain_of, class_line}
 use Rattle.refine_program.specs.class_rules.Members.{class_at, no_class, fields_along}
 use Rattle.refine_program.specs.class_rules.Classes.{class_fields}

@@ -5,8 +5,8 @@ use Rattle.std.specs.List.{AllZip}
 use Rattle.std.specs.List.Sorted.{IsPermutation, IsNonDecreasingBy}
 use Rattle.std.proofs.lemmas.List.{length-map}
 use Rattle.std.proofs.lemmas.List.Sorted.{IsPermutation-trans, IsPermutation-sym}
-use Rattle.rpp_tree.specs.Parts.{source_tokens}
-use Rattle.rpp_tree.specs.Tree.{Source}
+use Rattle.refine_program.specs.rpp_tree.Parts.{source_tokens}
+use Rattle.refine_program.specs.rpp_tree.Tree.{Source}
 use Rattle.refine_program.specs.class_rules.Program.{IsAccepted}
 use Rattle.refine_program.specs.pisa_isa.declared.cell.Cell.{Cell}
 use Rattle.refine_program.specs.pisa_isa.declared.notes.Mark.{Mark}

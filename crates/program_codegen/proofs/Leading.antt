@@ -3,7 +3,7 @@ use Rattle.std.proofs.Common.{◌∙◌, ℕ, ◌+◌, List, []}
 use Rattle.std.specs.Prelude.{slice_get}
 use Rattle.std.specs.Option.{unwrap_or}
 use Rattle.refine_program.specs.rpp_words.declared.input.Limits.{Limits}
-use Rattle.rpp_tree.specs.Tree.{Source}
+use Rattle.refine_program.specs.rpp_tree.Tree.{Source}
 use Rattle.refine_program.specs.pisa_isa.Image.{Segments}
 use Rattle.refine_program.specs.paired_code.declared.part.Symbol.{Symbol}
 use Rattle.refine_program.specs.refine_calls.Laws.{IsRouted}

@@ -12,11 +12,11 @@ use Rattle.std.proofs.lemmas.List.Sums.{sum_by-cons, sum_by-le, list_all-from_Al
 use Rattle.refine_program.specs.code_conventions.declared.memory.TheConstants.{FIRST_FIELD, HEADER_WORDS}
 use Rattle.refine_program.specs.rpp_words.declared.input.TheConstants.{FIXED_CELLS}
 use Rattle.refine_program.specs.rpp_words.Names.{is_name_byte}
-use Rattle.rpp_tree.specs.declared.tree.Ident.{Ident}
-use Rattle.rpp_tree.specs.declared.tree.Var.{Var}
-use Rattle.rpp_tree.specs.Names.{IsName}
-use Rattle.rpp_tree.specs.Parts.{source_names}
-use Rattle.rpp_tree.specs.Tree.{Source}
+use Rattle.refine_program.specs.rpp_tree.declared.tree.Ident.{Ident}
+use Rattle.refine_program.specs.rpp_tree.declared.tree.Var.{Var}
+use Rattle.refine_program.specs.rpp_tree.Names.{IsName}
+use Rattle.refine_program.specs.rpp_tree.Parts.{source_names}
+use Rattle.refine_program.specs.rpp_tree.Tree.{Source}
 use Rattle.refine_program.specs.class_rules.Classes.{main_of}
 use Rattle.refine_program.specs.class_rules.Program.{IsAccepted}
 use Rattle.refine_program.specs.pisa_isa.declared.notes.TheConstants.{MOST_NAMES, MOST_NAME_BYTES}

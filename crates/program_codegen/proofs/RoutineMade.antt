@@ -2,11 +2,11 @@
 -- of the method's routine.
 use Rattle.std.proofs.Common.{◌≡◌, ◌∙◌, ap, subst, refl, ℕ, ◌+◌, ◌*◌, ◌<◌, ◌≤◌, suc, List, [], ◌∷◌, length, Some, arith}
 use Rattle.std.proofs.Common.{slice_get}
-use Rattle.rpp_tree.specs.declared.tree.Program.{Program}
-use Rattle.rpp_tree.specs.declared.tree.Var.{Var}
-use Rattle.rpp_tree.specs.Parts.{block_tokens}
-use Rattle.rpp_tree.specs.Tree.{Procedure}
-use Rattle.rpp_tree.specs.Views.{source_of}
+use Rattle.refine_program.specs.rpp_tree.declared.tree.Program.{Program}
+use Rattle.refine_program.specs.rpp_tree.declared.tree.Var.{Var}
+use Rattle.refine_program.specs.rpp_tree.Parts.{block_tokens}
+use Rattle.refine_program.specs.rpp_tree.Tree.{Procedure}
+use Rattle.refine_program.specs.rpp_tree.Views.{source_of}
 use Rattle.refine_program.specs.class_rules.declared.method.MethodId.{MethodId}
 use Rattle.refine_program.specs.class_rules.Members.{class_at}
 use Rattle.refine_program.specs.class_rules.Program.{IsAccepted}

@@ -2,7 +2,7 @@
 use Rattle.std.proofs.Common.{◌≡◌, ◌∙◌, sym, refl, ℕ, List}
 use Rattle.refine_program.specs.rpp_words.declared.input.FieldWord.{FieldWord}
 use Rattle.refine_program.specs.rpp_words.declared.input.Limits.{Limits}
-use Rattle.rpp_tree.specs.Tree.{Source}
+use Rattle.refine_program.specs.rpp_tree.Tree.{Source}
 use Rattle.refine_program.specs.pisa_isa.declared.machine.Stop.{Stop}
 use Rattle.refine_program.specs.pisa_isa.declared.machine.Stop.TheVariants.{Finished, Returned, Trap, BadAddress, OffCode, Bound}
 use Rattle.refine_program.specs.pisa_isa.Image.{Segments}

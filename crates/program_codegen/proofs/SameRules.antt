@@ -2,13 +2,13 @@
 use Rattle.std.proofs.Common.{◌≡◌, ◌∙◌, ap, refl, ℕ, Bool, List, [], ◌∷◌, length, Option, Some, None}
 use Rattle.std.specs.Prelude.{Result, Ok, Err, nat_eq}
 use Rattle.std.specs.Option.{option_or, ok_or, unwrap_or, is_none}
-use Rattle.rpp_tree.specs.declared.tree.Ident.{Ident}
-use Rattle.rpp_tree.specs.declared.tree.Var.{Var}
-use Rattle.rpp_tree.specs.declared.tree.VarType.{VarType}
-use Rattle.rpp_tree.specs.Places.{place_name}
-use Rattle.rpp_tree.specs.Tree.{Expression, Number, Null, Variable, Element, Binary, Lvalue, Whole, Item, Creation}
-use Rattle.rpp_tree.specs.Tree.{Object, Ints, Objects, Statement, Statements, Update, Swap, If, From, Construct, Local}
-use Rattle.rpp_tree.specs.Tree.{New, Delete, Copy, Uncopy, Call, Skip, End, Then}
+use Rattle.refine_program.specs.rpp_tree.declared.tree.Ident.{Ident}
+use Rattle.refine_program.specs.rpp_tree.declared.tree.Var.{Var}
+use Rattle.refine_program.specs.rpp_tree.declared.tree.VarType.{VarType}
+use Rattle.refine_program.specs.rpp_tree.Places.{place_name}
+use Rattle.refine_program.specs.rpp_tree.Tree.{Expression, Number, Null, Variable, Element, Binary, Lvalue, Whole, Item, Creation}
+use Rattle.refine_program.specs.rpp_tree.Tree.{Object, Ints, Objects, Statement, Statements, Update, Swap, If, From, Construct, Local}
+use Rattle.refine_program.specs.rpp_tree.Tree.{New, Delete, Copy, Uncopy, Call, Skip, End, Then}
 use Rattle.refine_program.specs.class_rules.declared.kind.Kind.TheVariants as kind
 use Rattle.refine_program.specs.class_rules.Overrides.{parameters_of}
 use Rattle.refine_program.specs.class_rules.Refusal.{Refusal, unknown_name, type_differs, wrong_arity}

@@ -3,8 +3,8 @@ use Rattle.std.proofs.Common.{◌≡◌, ◌∙◌, sym, ap, subst, refl, ℕ, �
 use Rattle.std.proofs.Common.{Some, arith, slice_get}
 use Rattle.std.specs.Prelude.{slice_index}
 use Rattle.std.specs.Option.{unwrap_or}
-use Rattle.rpp_tree.specs.Parts.{source_tokens}
-use Rattle.rpp_tree.specs.Tree.{Procedure, Source}
+use Rattle.refine_program.specs.rpp_tree.Parts.{source_tokens}
+use Rattle.refine_program.specs.rpp_tree.Tree.{Procedure, Source}
 use Rattle.refine_program.specs.class_rules.declared.method.MethodId.{MethodId}
 use Rattle.refine_program.specs.class_rules.Chains.{parents}
 use Rattle.refine_program.specs.class_rules.Classes.{class_slots, main_of}

@@ -4,10 +4,10 @@ use Rattle.std.proofs.Common.{take, replicate, arith, append_assoc, slice_get, g
 use Rattle.std.specs.Prelude.{slice_index}
 use Rattle.std.proofs.lemmas.List.{append-nil, length-map, map-append}
 use Rattle.std.proofs.lemmas.Option.{unwrap_or-slice_get}
-use Rattle.rpp_tree.specs.declared.tree.Class.{Class}
-use Rattle.rpp_tree.specs.declared.tree.Program.{Program}
-use Rattle.rpp_tree.specs.Tree.{ClassText, Source}
-use Rattle.rpp_tree.specs.Views.{procedure_of, class_text_of, source_of}
+use Rattle.refine_program.specs.rpp_tree.declared.tree.Class.{Class}
+use Rattle.refine_program.specs.rpp_tree.declared.tree.Program.{Program}
+use Rattle.refine_program.specs.rpp_tree.Tree.{ClassText, Source}
+use Rattle.refine_program.specs.rpp_tree.Views.{procedure_of, class_text_of, source_of}
 use Rattle.refine_program.specs.class_rules.declared.method.MethodId.{MethodId}
 use Rattle.refine_program.specs.class_rules.First.{each_below}
 use Rattle.refine_program.specs.class_rules.Classes.{class_slots}

@@ -3,7 +3,7 @@ use Rattle.std.specs.Prelude.{◌≡◌, ℕ, List}
 use Rattle.refine_program.specs.rpp_words.declared.input.FieldWord.{FieldWord}
 use Rattle.refine_program.specs.rpp_words.declared.input.Limits.{Limits}
 use Rattle.refine_program.specs.rpp_words.Limits.{IsLimits}
-use Rattle.rpp_tree.specs.Tree.{Source}
+use Rattle.refine_program.specs.rpp_tree.Tree.{Source}
 use Rattle.refine_program.specs.pisa_isa.declared.machine.Stop.TheVariants.{Bound}
 use Rattle.refine_program.specs.pisa_isa.Image.{Segments}
 use Rattle.refine_program.specs.roopl_semantics.Run.{More}

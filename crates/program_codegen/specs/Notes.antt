@@ -5,8 +5,8 @@ use Rattle.std.specs.Prelude.{if◌then◌else◌}
 use Rattle.std.specs.List.{AllZip}
 use Rattle.std.specs.List.Sorted.{IsPermutation, IsNonDecreasingBy}
 use Rattle.refine_program.specs.rpp_words.declared.input.Limits.{Limits}
-use Rattle.rpp_tree.specs.declared.tree.Var.{Var}
-use Rattle.rpp_tree.specs.Tree.{Source}
+use Rattle.refine_program.specs.rpp_tree.declared.tree.Var.{Var}
+use Rattle.refine_program.specs.rpp_tree.Tree.{Source}
 use Rattle.refine_program.specs.pisa_isa.declared.notes.Mark.{Mark}
 use Rattle.refine_program.specs.pisa_isa.declared.notes.FieldName.{FieldName}
 use Rattle.refine_program.specs.pisa_isa.Image.{Segments}
@@ -19,7 +19,7 @@ use Rattle.refine_program.specs.paired_code.Does.{Meets}
 use Rattle.refine_program.specs.roopl_semantics.Store.{State}
 use Rattle.refine_program.specs.roopl_semantics.Source.{main_fields, is_int_type}
 use Rattle.refine_program.specs.code_conventions.declared.memory.TheConstants.{FIRST_FIELD}
-use Rattle.rpp_tree.specs.Places.{statement_place}
+use Rattle.refine_program.specs.rpp_tree.Places.{statement_place}
 use Rattle.statement_codegen.specs.Rows.{Row, block_rows}
 use Rattle.statement_codegen.specs.Ranges.{AreNested, is_marked}
 use Rattle.refine_program.specs.refine_form.Form.{HasOpenFrame, run_result, one, turned_statement}

@@ -1,8 +1,8 @@
 -- The fragment of a method's routine, and the numbers of routines.
 use Rattle.std.specs.Prelude.{◌≡◌, ℕ, ◌+◌, ◌*◌, ◌≤◌, List, [], ◌∷◌, length}
 use Rattle.std.specs.List.{AllZip}
-use Rattle.rpp_tree.specs.Parts.{block_tokens}
-use Rattle.rpp_tree.specs.Tree.{Source}
+use Rattle.refine_program.specs.rpp_tree.Parts.{block_tokens}
+use Rattle.refine_program.specs.rpp_tree.Tree.{Source}
 use Rattle.refine_program.specs.class_rules.First.{each_below}
 use Rattle.refine_program.specs.paired_code.Code.{Code}
 use Rattle.refine_program.specs.buddy_pisa.Promise.{AllocatorLaw}

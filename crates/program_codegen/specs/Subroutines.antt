@@ -3,8 +3,8 @@ use Rattle.std.specs.Prelude.{◌≡◌, ℕ, ◌+◌, ◌++◌, ◌<◌, true, 
 use Rattle.std.specs.Prelude.{slice_index}
 use Rattle.std.specs.Prelude.{Some}
 use Rattle.std.specs.Option.{unwrap_or}
-use Rattle.rpp_tree.specs.declared.tree.Ident.{Ident}
-use Rattle.rpp_tree.specs.Tree.{Source}
+use Rattle.refine_program.specs.rpp_tree.declared.tree.Ident.{Ident}
+use Rattle.refine_program.specs.rpp_tree.Tree.{Source}
 use Rattle.refine_program.specs.class_rules.Table.{table_of, slot_in}
 use Rattle.refine_program.specs.class_rules.Inheritance.{is_or_inherits}
 use Rattle.refine_program.specs.pisa_isa.declared.notes.Mark.{Mark}

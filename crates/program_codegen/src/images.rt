@@ -1,7 +1,7 @@
 // The image of a program.
 ghost use Rattle.std.specs.Prelude.{◌≤◌, ◌+◌, ◌*◌, length, IfOk};
-ghost use Rattle.rpp_tree.specs.Parts.{source_tokens};
-ghost use Rattle.rpp_tree.specs.Views.{source_of};
+ghost use Rattle.refine_program.specs.rpp_tree.Parts.{source_tokens};
+ghost use Rattle.refine_program.specs.rpp_tree.Views.{source_of};
 ghost use Rattle.refine_program.specs.pisa_isa.Image.{IsImage};
 ghost use Rattle.refine_program.specs.roopl_semantics.StandsFor.{StandsFor};
 ghost use Rattle.program_codegen.specs.Notes.{HasMarks, AreNotes};
@@ -10,11 +10,8 @@ use crate::notes::field_names;
 use crate::numbers::{first_routines, routine_number};
 use crate::routines::routines;
 use crate::statics::statics;
-use class_table::Checked;
-use paired_code::link;
-use pisa_isa::{Noted, Notes};
-use rpp_words::NoMemory;
-use statement_codegen::main_code;
+use refine_program::Checked;
+use statement_codegen::{NoMemory, Noted, Notes, link, main_code};
 use std::alloc::Global;
 
 /// The image of a program, with the cells of each statement and of each int field noted.

@@ -3,10 +3,9 @@ ghost use Rattle.std.specs.Prelude.{◌≡◌, ◌≤◌, length, IfOk};
 ghost use Rattle.refine_program.specs.roopl_semantics.Source.{is_int_type};
 ghost use Rattle.program_codegen.specs.Notes.{field_names as names_of};
 
-use code_conventions::memory::FIRST_FIELD;
-use pisa_isa::{FieldName, NoteText};
-use rpp_tree::tree::{Var, VarType};
-use rpp_words::NoMemory;
+use statement_codegen::memory::FIRST_FIELD;
+use statement_codegen::tree::{Var, VarType};
+use statement_codegen::{FieldName, NoMemory, NoteText};
 use std::alloc::Global;
 
 /// The names of the int fields of the main object, with their data cells.

@@ -1,14 +1,14 @@
 // The numbers of the methods' routines, which are in the order of the source.
 ghost use Rattle.std.specs.Prelude.{◌≡◌, ◌<◌, ◌≤◌, ◌+◌, ◌^◌, length, slice_index, IfOk};
-ghost use Rattle.rpp_tree.specs.declared.limits.TheConstants.{MOST_TOKENS};
-ghost use Rattle.rpp_tree.specs.Parts.{source_tokens};
-ghost use Rattle.rpp_tree.specs.Views.{source_of};
+ghost use Rattle.refine_program.specs.rpp_tree.declared.limits.TheConstants.{MOST_TOKENS};
+ghost use Rattle.refine_program.specs.rpp_tree.Parts.{source_tokens};
+ghost use Rattle.refine_program.specs.rpp_tree.Views.{source_of};
 ghost use Rattle.program_codegen.specs.Routines.{first_numbers};
 ghost use Rattle.program_codegen.specs.declared.numbers.TheConstants.{FIRST_METHOD};
 
-use class_table::MethodId;
-use rpp_tree::tree::Program;
-use rpp_words::NoMemory;
+use refine_program::MethodId;
+use statement_codegen::NoMemory;
+use statement_codegen::tree::Program;
 use std::alloc::Global;
 
 /// How many methods come before those of each class.

@@ -1,17 +1,14 @@
 // The bodies of the routines: the allocator of the heap, and the code of each method.
 ghost use Rattle.std.specs.Prelude.{◌≡◌, ◌<◌, ◌≤◌, Some, map, length, slice_get, IfOk};
 ghost use Rattle.std.specs.List.{AllZip};
-ghost use Rattle.rpp_tree.specs.Views.{procedure_of, source_of};
+ghost use Rattle.refine_program.specs.rpp_tree.Views.{procedure_of, source_of};
 ghost use Rattle.refine_program.specs.class_rules.Members.{class_at};
 ghost use Rattle.refine_program.specs.Methods.{entries_of, entries};
 ghost use Rattle.program_codegen.specs.Routines.{IsRoutine, AreRoutines};
 
-use buddy_pisa::allocator;
-use class_table::{Checked, MethodId, methods_at};
-use paired_code::Piece;
-use rpp_tree::tree::Method;
-use rpp_words::NoMemory;
-use statement_codegen::{Scope, block_code, method_code};
+use refine_program::{Checked, MethodId, allocator, methods_at};
+use statement_codegen::tree::Method;
+use statement_codegen::{NoMemory, Piece, Scope, block_code, method_code};
 use std::alloc::Global;
 
 /// The bodies of all routines: the allocator, and the methods in the order of the text.

@@ -1,6 +1,6 @@
 // The static cells of a program.
 ghost use Rattle.std.specs.Prelude.{◌≡◌, ◌≤◌, ◌<◌, ◌++◌, ℕ, List, map, length, replicate, IfOk, OnOk};
-ghost use Rattle.rpp_tree.specs.Views.{source_of};
+ghost use Rattle.refine_program.specs.rpp_tree.Views.{source_of};
 ghost use Rattle.refine_program.specs.roopl_semantics.Layout.{tables};
 ghost use Rattle.refine_program.specs.roopl_semantics.Source.{main_fields};
 ghost use Rattle.refine_program.specs.paired_code.declared.part.StaticWord.TheVariants.{Word};
@@ -10,11 +10,9 @@ ghost use Rattle.program_codegen.specs.Routines.{first_numbers};
 ghost use Rattle.program_codegen.specs.declared.numbers.TheConstants.{FIRST_METHOD};
 
 use crate::numbers::routine_number;
-use class_table::Checked;
-use code_conventions::memory::header;
-use paired_code::StaticWord;
-use refine_program::table_at;
-use rpp_words::NoMemory;
+use refine_program::{Checked, table_at};
+use statement_codegen::memory::header;
+use statement_codegen::{NoMemory, StaticWord};
 use std::alloc::{AllocError, Global};
 
 /// The static cells of a program, for any addresses of its routines: the main object, and the table

@@ -2,14 +2,14 @@
 use Rattle.std.proofs.Common.{◌≡◌, ℕ, List, [], ◌++◌, length, None, Some, Ok, Err, inl, inr, refl}
 use Rattle.std.specs.declared.option.Option.{Option}
 use Rattle.std.specs.Prelude.{Result}
-use Rattle.roopl_judge.specs.rpp_words.declared.input.Limits.{Limits}
-use Rattle.roopl_judge.specs.rpp_tree.Tree.{Source}
+use Rattle.command_plan.specs.rpp_words.declared.input.Limits.{Limits}
+use Rattle.command_plan.specs.rpp_tree.Tree.{Source}
 use Rattle.image_inverter.specs.pisa_isa.declared.machine.Stop.{Stop}
 use Rattle.image_inverter.specs.pisa_isa.declared.machine.Stop.TheVariants.{Finished, Trap, Bound, Returned, BadAddress}
 use Rattle.image_inverter.specs.pisa_isa.declared.machine.Stop.TheVariants.{OffCode}
 use Rattle.command_plan.specs.declared.plan.Sizes.{Sizes}
 use Rattle.command_plan.specs.rpp_ports.Ports.{Texts}
-use Rattle.roopl_judge.specs.rpp_words.declared.input.FieldWord.{FieldWord}
+use Rattle.command_plan.specs.rpp_words.declared.input.FieldWord.{FieldWord}
 use Rattle.command_plan.specs.pisa_loader.declared.error.LoadError.{LoadError}
 use Rattle.program_runs.specs.run_settings.Inputs.{given_input}
 use Rattle.command_plan.specs.Plans.{Planned, WritesOnly}

@@ -3,9 +3,9 @@
 use Rattle.std.proofs.Common.{◌≡◌, ◌∙◌, sym, ap, subst, ℕ, ◌+◌, ◌<◌, ◌≤◌, List, ◌++◌, length, Ok, Err, refl}
 use Rattle.std.proofs.Common.{arith}
 use Rattle.std.specs.Prelude.{Result, OnOk}
-use Rattle.roopl_judge.specs.rpp_words.declared.input.FieldWord.{FieldWord}
-use Rattle.roopl_judge.specs.rpp_words.declared.input.Limits.{Limits}
-use Rattle.roopl_judge.specs.rpp_tree.Tree.{Source}
+use Rattle.command_plan.specs.rpp_words.declared.input.FieldWord.{FieldWord}
+use Rattle.command_plan.specs.rpp_words.declared.input.Limits.{Limits}
+use Rattle.command_plan.specs.rpp_tree.Tree.{Source}
 use Rattle.image_inverter.specs.pisa_isa.declared.machine.Stop.{Stop}
 use Rattle.image_inverter.specs.pisa_isa.declared.machine.Stop.TheVariants.{Finished, Trap, Bound, Returned, BadAddress}
 use Rattle.image_inverter.specs.pisa_isa.declared.machine.Stop.TheVariants.{OffCode}

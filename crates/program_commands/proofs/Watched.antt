@@ -6,11 +6,11 @@ use Rattle.image_inverter.specs.pisa_isa.declared.cell.Cell.{Cell}
 use Rattle.image_inverter.specs.pisa_isa.declared.machine.Stop.TheVariants.{Finished}
 use Rattle.image_inverter.specs.pisa_isa.Flipped.{flipped}
 use Rattle.image_inverter.specs.pisa_isa.Machine.{State}
-use Rattle.roopl_judge.specs.rpp_words.declared.input.FieldWord.{FieldWord}
-use Rattle.roopl_judge.specs.rpp_words.declared.input.Limits.{Limits}
-use Rattle.roopl_judge.specs.rpp_tree.Tree.{Source}
+use Rattle.command_plan.specs.rpp_words.declared.input.FieldWord.{FieldWord}
+use Rattle.command_plan.specs.rpp_words.declared.input.Limits.{Limits}
+use Rattle.command_plan.specs.rpp_tree.Tree.{Source}
 use Rattle.command_plan.specs.rpp_probes.declared.probe.StepAt.{StepAt}
-use Rattle.rpp_probes.proofs.Folds.{left_none}
+use Rattle.command_plan.proofs.rpp_probes_laws.Folds.{left_none}
 use Rattle.command_plan.specs.rpp_probes.Tally.{Watch, left_after, lines_after, lines_shown, watch_line}
 use Rattle.image_inverter.specs.pisa_isa.declared.machine.Stop.{Stop}
 use Rattle.image_inverter.specs.pisa_isa.Image.{Segments, IsImage}

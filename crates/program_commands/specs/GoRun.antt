@@ -1,8 +1,8 @@
 -- What the report of a run rests on.
 use Rattle.std.specs.Prelude.{◌≡◌, ◌≤◌, ℕ, List, ◌++◌, length}
-use Rattle.roopl_judge.specs.rpp_words.declared.input.FieldWord.{FieldWord}
-use Rattle.roopl_judge.specs.rpp_words.declared.input.Limits.{Limits}
-use Rattle.roopl_judge.specs.rpp_tree.Tree.{Source}
+use Rattle.command_plan.specs.rpp_words.declared.input.FieldWord.{FieldWord}
+use Rattle.command_plan.specs.rpp_words.declared.input.Limits.{Limits}
+use Rattle.command_plan.specs.rpp_tree.Tree.{Source}
 use Rattle.image_inverter.specs.pisa_isa.declared.machine.Stop.{Stop}
 use Rattle.image_inverter.specs.pisa_isa.declared.machine.Stop.TheVariants.{Finished}
 use Rattle.image_inverter.specs.pisa_isa.Image.{IsImage}
@@ -13,7 +13,7 @@ use Rattle.store_report.specs.pisa_machine.Position.{Position, first_position}
 use Rattle.store_report.specs.roopl_semantics.Store.{State}
 use Rattle.store_report.specs.roopl_semantics.Source.{IsValid, GivesDone, starting}
 use Rattle.store_report.specs.roopl_semantics.Report.{report}
-use Rattle.roopl_judge.specs.rpp_words.Limits.{IsLimits}
+use Rattle.command_plan.specs.rpp_words.Limits.{IsLimits}
 use Rattle.store_report.specs.roopl_semantics.StandsFor.{StandsFor, run_of}
 use Rattle.command_plan.specs.command_ends.declared.verdict.Verdict.TheVariants.{Done}
 use Rattle.command_plan.specs.Plans.{Planned, prints}

@@ -3,10 +3,10 @@ use Rattle.std.specs.Prelude.{◌≡◌, ℕ, ◌+◌, ◌≤◌, List, ◌++◌
 use Rattle.std.specs.Prelude.{codes}
 use Rattle.std.specs.declared.option.Option.{Option}
 use Rattle.std.specs.Fmt.{decimal}
-use Rattle.roopl_judge.specs.rpp_words.declared.input.FieldWord.{FieldWord}
-use Rattle.roopl_judge.specs.rpp_words.declared.input.Limits.{Limits}
-use Rattle.roopl_judge.specs.rpp_tree.declared.limits.TheConstants.{MOST_BYTES}
-use Rattle.roopl_judge.specs.rpp_tree.Tree.{Source}
+use Rattle.command_plan.specs.rpp_words.declared.input.FieldWord.{FieldWord}
+use Rattle.command_plan.specs.rpp_words.declared.input.Limits.{Limits}
+use Rattle.command_plan.specs.rpp_tree.declared.limits.TheConstants.{MOST_BYTES}
+use Rattle.command_plan.specs.rpp_tree.Tree.{Source}
 use Rattle.command_plan.specs.rpp_ports.Ports.{Texts}
 use Rattle.program_runs.specs.program_codegen.Notes.{AreNotes}
 use Rattle.image_inverter.specs.pisa_isa.declared.machine.Stop.{Stop}
@@ -20,7 +20,7 @@ use Rattle.image_inverter.specs.pisa_isa.Loaded.{loaded}
 use Rattle.image_inverter.specs.pisa_isa.Runs.{End, zero_registers}
 use Rattle.store_report.specs.roopl_semantics.StandsFor.{StandsFor, EndsAt, run_of, enough_steps}
 use Rattle.program_runs.specs.run_settings.Runnable.{IsJudgedPlan}
-use Rattle.roopl_judge.specs.rpp_words.Texts.{line_end}
+use Rattle.command_plan.specs.rpp_words.Texts.{line_end}
 use Rattle.command_plan.specs.command_ends.declared.verdict.Verdict.TheVariants.{Done}
 use Rattle.command_plan.specs.Plans.{Planned, prints, writes, WithText}
 use Rattle.command_plan.specs.Texts.{cells_line}

@@ -1,15 +1,14 @@
 // `check F`: accepts or refuses a source.
 ghost use Rattle.std.specs.Prelude.{◌≤◌, [], ◌∷◌, length, IfOk, IfSome};
-ghost use Rattle.roopl_judge.specs.rpp_tree.declared.limits.TheConstants.{MOST_BYTES};
+ghost use Rattle.command_plan.specs.rpp_tree.declared.limits.TheConstants.{MOST_BYTES};
 ghost use Rattle.command_plan.specs.Plans.{planned, GivesPlan};
 ghost use Rattle.program_commands.specs.ProgramPlans.{IsCheckPlan, ChecksFile};
 ghost use Rattle.command_plan.specs.Files.{OnlyReads, source_file};
 
 use command_plan::{NoPlan, Plan, Verdict, read_file, refuse_source};
-use roopl_judge::{SourceError, judge};
-use rpp_ports::Shelf;
-use rpp_tree::MOST_BYTES;
-use rpp_words::NoMemory;
+use image_inverter::NoMemory;
+use program_runs::limits::MOST_BYTES;
+use program_runs::{Shelf, SourceError, judge};
 use std::alloc::Global;
 
 /// Checks the source in a file.

@@ -1,19 +1,17 @@
 // `compile F IMG`: writes the image of a program.
 ghost use Rattle.std.specs.Prelude.{◌≤◌, [], ◌∷◌, length, IfOk, IfSome};
-ghost use Rattle.roopl_judge.specs.rpp_tree.Views.{source_of};
-ghost use Rattle.roopl_judge.specs.rpp_tree.declared.limits.TheConstants.{MOST_BYTES};
+ghost use Rattle.command_plan.specs.rpp_tree.Views.{source_of};
+ghost use Rattle.command_plan.specs.rpp_tree.declared.limits.TheConstants.{MOST_BYTES};
 ghost use Rattle.command_plan.specs.Plans.{planned, GivesPlan};
 ghost use Rattle.program_commands.specs.ProgramPlans.{IsCompilePlan, WritesImage, CompilesFile};
 ghost use Rattle.command_plan.specs.Files.{OnlyReads, source_file};
 
-use class_table::Checked;
 use command_plan::{NoPlan, Plan, read_file, refuse_source, write_as};
-use program_runs::compile;
-use roopl_judge::{SourceError, judge};
-use rpp_ports::Shelf;
-use rpp_tree::MOST_BYTES;
-use rpp_words::NoMemory;
+use image_inverter::NoMemory;
+use program_runs::limits::MOST_BYTES;
+use program_runs::{Shelf, SourceError, compile, judge};
 use std::alloc::Global;
+use store_report::Checked;
 
 /// Compiles the source in a file into an image file.
 pub fn compile_file<S: Shelf>(

@@ -1,7 +1,7 @@
 // `go F H D STEPS [INPUT]`: compiles a program, runs its image and reports.
 ghost use Rattle.std.specs.Prelude.{◌≡◌, ◌≤◌, ◌<◌, ◌+◌, ◌^◌, ◌∷◌, length, option_map, IfOk, IfErr, IfSome, string_bytes};
-ghost use Rattle.roopl_judge.specs.rpp_tree.Views.{source_of};
-ghost use Rattle.roopl_judge.specs.rpp_tree.declared.limits.TheConstants.{MOST_BYTES};
+ghost use Rattle.command_plan.specs.rpp_tree.Views.{source_of};
+ghost use Rattle.command_plan.specs.rpp_tree.declared.limits.TheConstants.{MOST_BYTES};
 ghost use Rattle.command_plan.specs.pisa_loader.declared.input.TheConstants.{MOST_INPUT};
 ghost use Rattle.command_plan.specs.Plans.{planned, GivesPlan};
 ghost use Rattle.program_runs.specs.Reports.{ReportsStore};
@@ -13,15 +13,11 @@ ghost use Rattle.command_plan.specs.Files.{OnlyReads, UnreadCause, source_file, 
 use command_plan::{
     NoPlan, Plan, Sizes, Verdict, read_given, report_bound, report_fault, with_steps,
 };
-use pisa_isa::Stop;
-use pisa_loader::load;
-use pisa_machine::{Machine, RunEnd, Steps};
-use program_runs::{Ready, RunSetting, compiled_image, ready};
-use rpp_ports::Shelf;
-use rpp_words::NoMemory;
+use image_inverter::{NoMemory, Stop};
+use program_runs::{Ready, RunSetting, Shelf, compiled_image, load, ready};
 use std::alloc::Global;
 use std::sync::ledger::Ledger;
-use store_report::report;
+use store_report::{Machine, RunEnd, Steps, report};
 
 /// Compiles a file, runs the image on an input if there is one, and reports. It makes the steps
 /// of that run and no others, and none if a file cannot be read.

@@ -12,4 +12,5 @@ pub use checking::check;
 pub use compiling::compile_file;
 pub use going::go;
 pub use profiling::profile;
+pub use store_report::Probes;
 pub use turning::turn;

@@ -1,7 +1,7 @@
 // `profile F H D STEPS`: what `go` does, as probes watch, and then their lines.
 ghost use Rattle.std.specs.Prelude.{◌≡◌, ◌⊎◌, ◌≤◌, ◌<◌, ◌+◌, ◌^◌, ◌++◌, [], ◌∷◌, length, map, IfOk, IfErr, OnOk, string_bytes};
-ghost use Rattle.roopl_judge.specs.rpp_tree.Views.{source_of};
-ghost use Rattle.roopl_judge.specs.rpp_tree.declared.limits.TheConstants.{MOST_BYTES};
+ghost use Rattle.command_plan.specs.rpp_tree.Views.{source_of};
+ghost use Rattle.command_plan.specs.rpp_tree.declared.limits.TheConstants.{MOST_BYTES};
 ghost use Rattle.command_plan.specs.rpp_probes.Tally.{lines_shown, watch_line};
 ghost use Rattle.command_plan.specs.Plans.{planned, GivesPlan};
 ghost use Rattle.command_plan.specs.Files.{OnlyReads, UnreadCause, source_file};
@@ -10,14 +10,12 @@ ghost use Rattle.program_commands.specs.ToldShort.{ProfilesShort, IsProfileShort
 
 use crate::going::{loaded_program, report_run};
 use command_plan::{NoPlan, Plan, Sizes, read_file};
-use pisa_machine::Steps;
-use program_runs::{Ready, RunSetting, ready};
-use rpp_ports::Shelf;
-use rpp_probes::Probes;
-use rpp_tree::MOST_BYTES;
-use rpp_words::NoMemory;
+use image_inverter::NoMemory;
+use program_runs::limits::MOST_BYTES;
+use program_runs::{Ready, RunSetting, Shelf, ready};
 use std::alloc::{AllocError, Global};
 use std::sync::ledger::Ledger;
+use store_report::{Probes, Steps};
 
 /// Compiles a file, runs the image, lets the probes observe each counted step, and reports. Shows
 /// the lines of the probes that ended, in the order of their ends, and then those of the others. It

@@ -1,8 +1,8 @@
 // `turn F H D STEPS [INPUT]`: what `go` does, and then the inverse image runs from where the run
 // finished, as probes watch.
 ghost use Rattle.std.specs.Prelude.{◌≡◌, ◌⊎◌, ◌≤◌, ◌<◌, ◌+◌, ◌^◌, ◌++◌, ◌∷◌, length, option_map, IfOk, IfErr, OnOk, string_bytes};
-ghost use Rattle.roopl_judge.specs.rpp_tree.Views.{source_of};
-ghost use Rattle.roopl_judge.specs.rpp_tree.declared.limits.TheConstants.{MOST_BYTES};
+ghost use Rattle.command_plan.specs.rpp_tree.Views.{source_of};
+ghost use Rattle.command_plan.specs.rpp_tree.declared.limits.TheConstants.{MOST_BYTES};
 ghost use Rattle.command_plan.specs.rpp_probes.Tally.{left_after};
 ghost use Rattle.image_inverter.specs.pisa_isa.declared.machine.Stop.TheVariants.{Finished};
 ghost use Rattle.image_inverter.specs.pisa_isa.Loaded.{loaded};
@@ -18,16 +18,11 @@ ghost use Rattle.image_inverter.specs.pisa_isa.Runs.{started};
 
 use crate::going::{loaded_program, report_run};
 use command_plan::{NoPlan, Plan, Sizes, Verdict, read_given, with_steps};
-use image_inverter::flip;
-use pisa_isa::Stop;
-use pisa_machine::{Machine, RunEnd, Steps};
-use program_runs::{Ready, RunSetting, ready};
-use rpp_ports::Shelf;
-use rpp_probes::Probes;
-use rpp_words::NoMemory;
+use image_inverter::{NoMemory, Stop, flip};
+use program_runs::{Ready, RunSetting, Shelf, ready};
 use std::alloc::{AllocError, Global};
 use std::sync::ledger::Ledger;
-use store_report::report;
+use store_report::{Machine, Probes, RunEnd, Steps, report};
 
 /// Does what `go` does. After a finish it runs the inverse image from there, lets the probes
 /// observe each counted step of that run, and reports again. It prints no line of theirs. It makes

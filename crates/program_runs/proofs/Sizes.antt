@@ -1,8 +1,8 @@
 -- The size of a compiled image, of any accepted program.
 use Rattle.std.proofs.Common.{ℕ, ◌+◌, ◌*◌, ◌≤◌, arith}
-use Rattle.rpp_tree.specs.Parts.{source_tokens}
-use Rattle.rpp_tree.specs.Tree.{Source}
-use Rattle.class_table.specs.class_rules.Program.{IsAccepted}
+use Rattle.run_settings.specs.rpp_tree.Parts.{source_tokens}
+use Rattle.run_settings.specs.rpp_tree.Tree.{Source}
+use Rattle.run_settings.specs.class_rules.Program.{IsAccepted}
 use Rattle.program_runs.specs.declared.compiled.TheConstants.{MOST_COMPILED}
 
 pub few_cells : (program : Source) (cells : ℕ) → IsAccepted program → cells ≤ 200 * source_tokens program + 8192

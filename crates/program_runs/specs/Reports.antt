@@ -2,7 +2,7 @@
 use Rattle.std.specs.Prelude.{◌≡◌, ℕ, ◌<◌, List, ◌++◌}
 use Rattle.run_settings.specs.rpp_words.declared.input.FieldWord.{FieldWord}
 use Rattle.run_settings.specs.rpp_words.declared.input.Limits.{Limits}
-use Rattle.rpp_tree.specs.Tree.{Source}
+use Rattle.run_settings.specs.rpp_tree.Tree.{Source}
 use Rattle.run_settings.specs.roopl_semantics.Store.{State}
 use Rattle.run_settings.specs.roopl_semantics.Source.{GivesDone, GivesFault}
 use Rattle.run_settings.specs.roopl_semantics.Report.{report}

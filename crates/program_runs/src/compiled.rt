@@ -1,14 +1,12 @@
 // The images of programs.
 ghost use Rattle.std.specs.Prelude.{◌≤◌, length, IfOk};
-ghost use Rattle.rpp_tree.specs.Views.{source_of};
-ghost use Rattle.pisa_isa.specs.Image.{IsImage};
+ghost use Rattle.run_settings.specs.rpp_tree.Views.{source_of};
+ghost use Rattle.run_settings.specs.pisa_isa.Image.{IsImage};
 ghost use Rattle.run_settings.specs.roopl_semantics.StandsFor.{StandsFor};
 
-use class_table::Checked;
-use pisa_isa::Image;
 use program_codegen::compile;
-use rpp_tree::MOST_TOKENS;
-use rpp_words::NoMemory;
+use run_settings::limits::MOST_TOKENS;
+use run_settings::{Checked, Image, NoMemory};
 use std::alloc::Global;
 
 /// The most code cells of a compiled image: 200 for each token that a program may have, and 8,192.

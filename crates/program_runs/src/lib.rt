@@ -7,4 +7,7 @@ mod compiled;
 
 pub use compiled::{MOST_COMPILED, compiled_image};
 pub use program_codegen::compile;
-pub use run_settings::{Ready, RunSetting, input_fields, ready};
+pub use run_settings::{
+    InputField, LoadError, Ready, RunSetting, Shelf, SourceError, check_limits, input_fields,
+    judge, limits, load, load_more, pieces, read_input, ready,
+};

@@ -6,3 +6,6 @@
 #![tactic(auto)]
 
 pub mod laws;
+
+pub use buddy_pisa::allocator;
+pub use method_calls::{call_on, local_block, main_code, method_code, own_call};

@@ -6,4 +6,8 @@
 
 pub mod laws;
 
-pub use expr_uncompute::{swap_code, test_code, update_code, value_code};
+pub use expr_uncompute::{Scope, Spot, spot_of, swap_code, test_code, update_code, value_code};
+pub use refine_calls::{call_on, local_block, main_code, method_code, own_call};
+
+/// An alias hands on this enum, which contains itself: Rattle does not find one that is handed on by `pub use`.
+pub type Expr = expr_uncompute::Expr;

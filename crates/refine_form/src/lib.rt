@@ -10,5 +10,10 @@ pub mod laws;
 mod pieces;
 mod spot;
 
+pub use paired_code::{
+    Cell, END_CELL, FRAME_WORDS, FieldName, NoMemory, NoteText, Noted, Notes, Op, Piece,
+    STACK_CELL, StaticWord, branch_if, cells, check_differ, check_equal, check_positive, empty,
+    enter, enter_at, faults, link, marked, memory, mirror, plain, registers, seq, turn_while,
+};
 pub use pieces::around;
 pub use spot::Spot;

@@ -3,8 +3,7 @@ ghost use Rattle.std.specs.Prelude.{◌≡◌, List, [], IfOk};
 ghost use Rattle.refine_form.specs.Cells.{around as around_cells};
 ghost use Rattle.refine_form.specs.Held.{HoldsCode};
 
-use paired_code::{Piece, mirror, seq};
-use rpp_words::NoMemory;
+use paired_code::{NoMemory, Piece, mirror, seq};
 use std::alloc::Global;
 
 /// The inner fragment between the outer one, which has no marks, and the outer one run the other

@@ -5,6 +5,7 @@
 
 mod laws;
 
+pub use buddy_pisa::{Cell, Op};
 pub use laws::{
     calls_lead_to_laid, layout_holds_its_book, rooms_stand_apart, what_is_left_is_laid,
 };

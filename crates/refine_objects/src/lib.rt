@@ -9,4 +9,11 @@ pub mod copied;
 pub mod made;
 pub mod opened;
 
-pub use object_codegen::{class_code, copy_code, new_code};
+pub use object_codegen::{ClassTable, Text, class_code, copy_code, new_code, place_of, tree};
+pub use refine_expressions::{call_on, local_block, main_code, method_code, own_call};
+
+/// An alias hands on this enum, which contains itself: Rattle does not find one that is handed on by `pub use`.
+pub type Stmt = object_codegen::Stmt;
+
+/// An alias hands on this enum, which contains itself: Rattle does not find one that is handed on by `pub use`.
+pub type Expr = refine_expressions::Expr;

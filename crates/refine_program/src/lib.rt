@@ -7,4 +7,5 @@
 
 pub mod laws;
 
-pub use static_layout::table_at;
+pub use refine_calls::allocator;
+pub use static_layout::{Checked, MethodId, methods_at, table_at};

@@ -4,4 +4,5 @@
 
 mod laws;
 
+pub use bennett_wrap::wrap_image;
 pub use laws::{int_fields_stand_in_static_cells, wrapped_programs_follow};

@@ -8,7 +8,7 @@ use Rattle.std.proofs.lemmas.Int.{ints}
 use Rattle.code_scope.specs.pisa_isa.Table.{word_of}
 use Rattle.code_scope.specs.rpp_words.Words.{is_less}
 use Rattle.code_scope.specs.roopl_semantics.Operators.{is_true, truth_word}
-use Rattle.refine_form.proofs.pisa_isa_laws.Back.{not-not}
+use Rattle.code_scope.proofs.pisa_isa_laws.Back.{not-not}
 
 pub word_is_truth : (b : Bool) → word_of b ≡ truth_word b
 word_is_truth true = refl

@@ -3,8 +3,8 @@ use Rattle.std.proofs.Common.{◌≡◌, ◌≢◌, ℕ, ◌^◌, ◌<◌, List,
 use Rattle.std.specs.Prelude.{bit_xor, bit_and, bit_or}
 use Rattle.std.specs.Int.Bits.{xor_assoc}
 use Rattle.code_scope.specs.rpp_words.Words.{is_less, sum_of, difference_of}
-use Rattle.rpp_tree.specs.declared.tree.BinOp.{BinOp}
-use Rattle.rpp_tree.specs.declared.tree.BinOp.TheVariants as op
+use Rattle.code_scope.specs.rpp_tree.declared.tree.BinOp.{BinOp}
+use Rattle.code_scope.specs.rpp_tree.declared.tree.BinOp.TheVariants as op
 use Rattle.code_scope.specs.pisa_isa.Table.{word_of}
 use Rattle.code_scope.specs.roopl_semantics.Operators.{operated, is_true, truth_word}
 use Rattle.register_expressions.specs.Code.{change_cells, literal_cells, give_cells}

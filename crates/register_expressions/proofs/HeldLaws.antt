@@ -5,8 +5,8 @@ use Rattle.std.proofs.Common.{refl, sym, ap, ◌∙◌, subst, ⊎_elim, arith}
 use Rattle.std.specs.Prelude.{bit_xor, if◌then◌else◌, slice_index, slice_set, Result, Ok, Err}
 use Rattle.std.proofs.lemmas.Bool.{cases_eq}
 use Rattle.code_scope.proofs.rpp_words_laws.Laws.{xor-twice}
-use Rattle.rpp_tree.specs.declared.tree.BinOp.{BinOp}
-use Rattle.rpp_tree.specs.Tree.{Expression, Number, Null, Variable, Element, Binary}
+use Rattle.code_scope.specs.rpp_tree.declared.tree.BinOp.{BinOp}
+use Rattle.code_scope.specs.rpp_tree.Tree.{Expression, Number, Null, Variable, Element, Binary}
 use Rattle.code_scope.specs.pisa_isa.Machine.{Memory}
 use Rattle.code_scope.specs.code_conventions.declared.registers.TheConstants.{CONTENT, FRAME, NOUGHT, OBJECT, OUTCOME}
 use Rattle.code_scope.specs.paired_code.declared.part.Symbol.{Symbol}

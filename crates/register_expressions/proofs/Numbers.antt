@@ -8,14 +8,14 @@ use Rattle.std.proofs.lemmas.List.{get_or-set_same, get_or-set_other, set_past}
 use Rattle.std.proofs.lemmas.Bool.{cases_lt, cases_eq}
 use Rattle.std.proofs.lemmas.Bool.Decides.{nat_tests}
 use Rattle.code_scope.specs.code_conventions.declared.memory.TheConstants.{HEADER_WORDS}
-use Rattle.rpp_tree.specs.declared.tree.BinOp.{BinOp}
-use Rattle.rpp_tree.specs.declared.tree.BinOp.TheVariants as op
-use Rattle.rpp_tree.specs.Tree.{Expression, Number, Null, Variable, Element, Binary}
+use Rattle.code_scope.specs.rpp_tree.declared.tree.BinOp.{BinOp}
+use Rattle.code_scope.specs.rpp_tree.declared.tree.BinOp.TheVariants as op
+use Rattle.code_scope.specs.rpp_tree.Tree.{Expression, Number, Null, Variable, Element, Binary}
 use Rattle.code_scope.specs.roopl_semantics.Operators.{operated}
 use Rattle.code_scope.specs.refine_form.declared.spot.Spot.{Spot}
 use Rattle.register_expressions.specs.Number.{Bases, element_address, element_at, word_in, combined_words, word_of, number}
 use Rattle.register_expressions.specs.Number.{IsArray, Sees}
-use Rattle.refine_form.proofs.meaning_sound_laws.Values.{truth_is_word}
+use Rattle.code_scope.proofs.meaning_sound_laws.Values.{truth_is_word}
 use Rattle.code_scope.specs.code_conventions.declared.faults.TheConstants.{INDEX, NIL}
 
 -- the same words below an address

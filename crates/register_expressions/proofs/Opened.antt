@@ -7,9 +7,9 @@ use Rattle.std.specs.Prelude.{slice_index, slice_set, bit_xor, if◌then◌else�
 use Rattle.std.specs.Int.Bits.{xor_zero_l, xor_assoc}
 use Rattle.code_scope.specs.rpp_words.Words.{is_less}
 use Rattle.code_scope.specs.code_conventions.declared.memory.TheConstants.{HEADER_WORDS}
-use Rattle.rpp_tree.specs.declared.tree.BinOp.{BinOp}
-use Rattle.rpp_tree.specs.declared.tree.BinOp.TheVariants as op
-use Rattle.rpp_tree.specs.Tree.{Expression, Number, Null, Variable, Element, Binary}
+use Rattle.code_scope.specs.rpp_tree.declared.tree.BinOp.{BinOp}
+use Rattle.code_scope.specs.rpp_tree.declared.tree.BinOp.TheVariants as op
+use Rattle.code_scope.specs.rpp_tree.Tree.{Expression, Number, Null, Variable, Element, Binary}
 use Rattle.code_scope.specs.pisa_isa.Machine.{Memory}
 use Rattle.code_scope.specs.paired_code.declared.part.Symbol.{Symbol}
 use Rattle.code_scope.specs.pisa_isa.Table as table
@@ -33,7 +33,7 @@ use Rattle.register_expressions.specs.Steps.{held_steps, element_steps}
 use Rattle.register_expressions.proofs.HeldChecks.{nil_goes, nil_traps, index_goes, index_traps, point_goes}
 use Rattle.register_expressions.proofs.Ways.{ok_is, inside_of, address_of_word, one_err, IsFault, by_index, by_nil}
 use Rattle.register_expressions.proofs.Ways.{by_end, fault_of, fault_of_word}
-use Rattle.rpp_tree.specs.declared.tree.Ident.{Ident}
+use Rattle.code_scope.specs.rpp_tree.declared.tree.Ident.{Ident}
 use Rattle.register_expressions.specs.Number.{element_at, word_in}
 use Rattle.register_expressions.proofs.Comparing
 use Rattle.register_expressions.proofs.Goes.{Goes, Traps, traps_first, traps_then, traps_more, nothing, goes_seq}

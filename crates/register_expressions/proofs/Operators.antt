@@ -2,8 +2,8 @@
 use Rattle.std.proofs.Common.{◌≡◌, ℕ, ◌^◌, ◌<◌, List, refl, ap, arith}
 use Rattle.std.specs.Prelude.{bit_xor, bit_and, bit_or}
 use Rattle.code_scope.specs.rpp_words.Words.{is_less, sum_of, difference_of}
-use Rattle.rpp_tree.specs.declared.tree.BinOp.{BinOp}
-use Rattle.rpp_tree.specs.declared.tree.BinOp.TheVariants as op
+use Rattle.code_scope.specs.rpp_tree.declared.tree.BinOp.{BinOp}
+use Rattle.code_scope.specs.rpp_tree.declared.tree.BinOp.TheVariants as op
 use Rattle.code_scope.specs.pisa_isa.Table.{word_of}
 use Rattle.code_scope.specs.pisa_isa.Machine.{Memory}
 use Rattle.code_scope.specs.code_conventions.declared.registers.TheConstants.{LEFT, LEFT_TRUTH, RIGHT, RIGHT_TRUTH}

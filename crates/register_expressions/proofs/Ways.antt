@@ -2,7 +2,7 @@
 use Rattle.std.proofs.Common.{◌≡◌, ◌≢◌, ℕ, ◌+◌, ◌<◌, ◌≤◌, ◌⊎◌, inl, inr, List, refl, sym, ◌∙◌}
 use Rattle.std.specs.Prelude.{slice_index, Result, Ok, Err}
 use Rattle.code_scope.specs.code_conventions.declared.memory.TheConstants.{HEADER_WORDS}
-use Rattle.rpp_tree.specs.declared.tree.BinOp.{BinOp}
+use Rattle.code_scope.specs.rpp_tree.declared.tree.BinOp.{BinOp}
 use Rattle.code_scope.specs.roopl_semantics.Operators.{operated}
 use Rattle.register_expressions.specs.Number.{element_address, element_at, word_in, combined_words}
 use Rattle.register_expressions.proofs.Numbers.{element_nil, element_inside, element_past, Way, nil, inside, past}

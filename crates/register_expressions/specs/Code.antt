@@ -2,10 +2,10 @@
 -- registers.
 use Rattle.std.specs.Prelude.{ℕ, ◌+◌, ◌<◌, ◌⊎◌, Bool, true, false, if◌then◌else◌, List, [], ◌∷◌}
 use Rattle.std.specs.Prelude.{◌++◌}
-use Rattle.rpp_tree.specs.declared.tree.BinOp.{BinOp}
-use Rattle.rpp_tree.specs.declared.tree.BinOp.TheVariants as op
+use Rattle.code_scope.specs.rpp_tree.declared.tree.BinOp.{BinOp}
+use Rattle.code_scope.specs.rpp_tree.declared.tree.BinOp.TheVariants as op
 use Rattle.code_scope.specs.rpp_words.Words.{difference_of}
-use Rattle.rpp_tree.specs.Tree.{Expression, Number, Null, Variable, Element, Binary}
+use Rattle.code_scope.specs.rpp_tree.Tree.{Expression, Number, Null, Variable, Element, Binary}
 use Rattle.code_scope.specs.pisa_isa.declared.cell.Op.{Op}
 use Rattle.code_scope.specs.pisa_isa.declared.cell.Op.TheVariants.{Add, Sub, Xor, Addi, Xori, Andx, Orx, Sltx}
 use Rattle.code_scope.specs.pisa_isa.declared.cell.Op.TheVariants.{Exch}
@@ -25,7 +25,7 @@ use Rattle.register_expressions.specs.declared.held.Kind.TheVariants.{Neither}
 use Rattle.register_expressions.specs.Held.{kind, past, need, told_need, left_at, right_at}
 use Rattle.register_expressions.specs.Held.{is_variable, is_literal, literal_in, is_zero_literal, expression_spot}
 use Rattle.register_expressions.specs.Held.{is_truth}
-pub use Rattle.refine_form.specs.Cells.{around, base_of}
+pub use Rattle.code_scope.specs.refine_form.Cells.{around, base_of}
 
 -- a register that no code of expressions uses for itself
 abbrev pub Target : ℕ → Type 0

@@ -1,8 +1,8 @@
 -- Expressions with few operators, whose subexpressions are in registers.
 use Rattle.std.specs.Prelude.{ℕ, ◌+◌, nat_eq, nat_lt, Bool, true, false, ◌&&◌, ◌||◌, not, List}
-use Rattle.rpp_tree.specs.declared.tree.BinOp.{BinOp}
-use Rattle.rpp_tree.specs.declared.tree.BinOp.TheVariants as op
-use Rattle.rpp_tree.specs.Tree.{Expression, Number, Null, Variable, Element, Binary}
+use Rattle.code_scope.specs.rpp_tree.declared.tree.BinOp.{BinOp}
+use Rattle.code_scope.specs.rpp_tree.declared.tree.BinOp.TheVariants as op
+use Rattle.code_scope.specs.rpp_tree.Tree.{Expression, Number, Null, Variable, Element, Binary}
 use Rattle.code_scope.specs.refine_form.declared.spot.Spot.{Spot}
 use Rattle.code_scope.specs.refine_form.declared.spot.Spot.TheVariants.{Frame}
 use Rattle.register_expressions.specs.declared.held.Kind.{Kind}

@@ -1,5 +1,5 @@
 pub use Rattle.code_scope.specs.rpp_words
-pub use Rattle.rpp_tree.specs as rpp_tree
+pub use Rattle.code_scope.specs.rpp_tree
 pub use Rattle.code_scope.specs.inverse_rules
 pub use Rattle.code_scope.specs.pisa_isa
 pub use Rattle.code_scope.specs.code_conventions

@@ -1,14 +1,14 @@
 -- What an expression is, read only from a memory.
 use Rattle.std.specs.Prelude.{◌≡◌, ◌≢◌, ℕ, ◌+◌, ◌^◌, ◌<◌, ◌≤◌, nat_eq, nat_lt, if◌then◌else◌, Bool}
 use Rattle.std.specs.Prelude.{false, ◌||◌, List, slice_index, Result, Ok, Err}
-use Rattle.rpp_tree.specs.declared.tree.BinOp.{BinOp}
-use Rattle.rpp_tree.specs.Tree.{Expression, Number, Null, Variable, Element, Binary, Lvalue, Whole}
-use Rattle.rpp_tree.specs.Tree.{Item}
+use Rattle.code_scope.specs.rpp_tree.declared.tree.BinOp.{BinOp}
+use Rattle.code_scope.specs.rpp_tree.Tree.{Expression, Number, Null, Variable, Element, Binary, Lvalue, Whole}
+use Rattle.code_scope.specs.rpp_tree.Tree.{Item}
 use Rattle.code_scope.specs.code_conventions.declared.memory.TheConstants.{HEADER_WORDS}
 use Rattle.code_scope.specs.roopl_semantics.Operators.{operated}
 use Rattle.code_scope.specs.refine_form.declared.spot.Spot.{Spot}
 use Rattle.code_scope.specs.refine_form.declared.spot.Spot.TheVariants.{Field, Frame}
-pub use Rattle.rpp_tree.specs.Tree.{lvalue_read}
+pub use Rattle.code_scope.specs.rpp_tree.Tree.{lvalue_read}
 use Rattle.code_scope.specs.code_conventions.declared.faults.TheConstants.{INDEX, NIL}
 
 -- the addresses of the current object and of the current frame

@@ -1,8 +1,8 @@
 -- How many steps operators and expressions in registers make.
 use Rattle.std.specs.Prelude.{ℕ, ◌+◌, Bool, true, false, if◌then◌else◌}
-use Rattle.rpp_tree.specs.declared.tree.BinOp.{BinOp}
-use Rattle.rpp_tree.specs.declared.tree.BinOp.TheVariants as op
-use Rattle.rpp_tree.specs.Tree.{Expression, Number, Null, Variable, Element, Binary}
+use Rattle.code_scope.specs.rpp_tree.declared.tree.BinOp.{BinOp}
+use Rattle.code_scope.specs.rpp_tree.declared.tree.BinOp.TheVariants as op
+use Rattle.code_scope.specs.rpp_tree.Tree.{Expression, Number, Null, Variable, Element, Binary}
 use Rattle.register_expressions.specs.declared.held.Kind.{Kind}
 use Rattle.register_expressions.specs.declared.held.Kind.TheVariants.{Changes, Gives, Joins}
 use Rattle.register_expressions.specs.declared.held.Kind.TheVariants.{Neither}

@@ -3,10 +3,7 @@ ghost use Rattle.std.specs.Prelude.{◌≡◌, ◌≢◌, ◌<◌, [], ◌∷◌
 ghost use Rattle.code_scope.specs.paired_code.Code.{unmarked};
 ghost use Rattle.register_expressions.specs.Code.{two as two_of, three as three_of, with_word as with_word_of, around};
 
-use code_conventions::cells;
-use paired_code::{Piece, mirror, plain, seq};
-use pisa_isa::{Cell, Op};
-use rpp_words::NoMemory;
+use code_scope::{Cell, NoMemory, Op, Piece, cells, mirror, plain, seq};
 use std::alloc::Global;
 
 /// A register exchanged with the cell at the address in another.

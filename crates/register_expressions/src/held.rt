@@ -1,6 +1,6 @@
 // Expressions with few operators, whose subexpressions are in registers.
 ghost use Rattle.std.specs.Prelude.{◌≡◌, ◌≢◌, ◌<◌, ◌≤◌, ◌+◌, ◌*◌, [], ◌∷◌, ◌++◌, ◌^◌, ◌⊎◌, true, false, if◌then◌else◌, IfOk};
-ghost use Rattle.rpp_tree.specs.Views.{expression_of, lvalue_of};
+ghost use Rattle.code_scope.specs.rpp_tree.Views.{expression_of, lvalue_of};
 ghost use Rattle.code_scope.specs.paired_code.Code.{unmarked};
 ghost use Rattle.register_expressions.specs.Code.{Target, words as words_of, sltx as sltx_cell, xor as xor_cell, xori as xori_cell, exch as exch_cell, around, reach_cells, copy_cells, nil_check_of, index_check_of, point_of, part as part_of, before, core, told_cells, element_cells, operands_cells, core_cells, change_cells, literal_cells, give_cells, held_cells, given_cells, held_value_cells, held_truth_cells, held_test_cells};
 ghost use Rattle.register_expressions.specs.Held.{kind as kind_of, own as own_of, beside as beside_of, past as past_of, need as need_of, told_need as told_need_of, left_at as left_place, right_at as right_place, has_parts as parts_in, is_held as held_of, has_element as element_in, is_opened_once as opened_once, is_near as near_of, is_near_index as near_index, is_variable as variable_of, is_literal as literal_is, literal_in, is_zero_literal as zero_is, expression_spot, gives_truth as tells_of, is_truth as truth_is};
@@ -9,14 +9,10 @@ ghost use Rattle.code_scope.specs.Visible.{spot_of as spot_of_name, known_by, of
 
 use crate::cells::{add, addi, andx, enclosed, orx, sltx, sub, xor, xori};
 use crate::rows::{copy, element, element_word, reached, truth};
-use code_conventions::memory::EXPRESSION_WORDS;
-use code_conventions::registers::{CONTENT, LEFT, NOUGHT};
-use code_scope::{Names, spot_of};
-use paired_code::{Piece, empty, seq};
-use refine_form::Spot;
-use rpp_tree::Text;
-use rpp_tree::tree::{BinOp, Expr, Place};
-use rpp_words::{NoMemory, wrap_sub};
+use code_scope::memory::EXPRESSION_WORDS;
+use code_scope::registers::{CONTENT, LEFT, NOUGHT};
+use code_scope::tree::{BinOp, Place};
+use code_scope::{Expr, Names, NoMemory, Piece, Spot, Text, empty, seq, spot_of, wrap_sub};
 use std::alloc::Global;
 
 /// An operator changes the register of its left operand, or xors its result into a register, or

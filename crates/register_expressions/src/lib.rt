@@ -8,3 +8,12 @@
 pub mod cells;
 pub mod held;
 pub mod rows;
+
+pub use code_scope::{
+    Names, NoMemory, Piece, Scope, Spot, Text, check_differ, check_equal, check_positive, empty,
+    enter, faults, free_word, memory, mirror, plain, registers, seq, spot_of, tree, turn_while,
+    wrap_sub,
+};
+
+/// An alias hands on this enum, which contains itself: Rattle does not find one that is handed on by `pub use`.
+pub type Expr = code_scope::Expr;

@@ -5,15 +5,13 @@ ghost use Rattle.register_expressions.specs.Code.{sltx as sltx_cell, xori as xor
 ghost use Rattle.code_scope.specs.Visible.{offset_of};
 
 use crate::cells::{add, addi, andx, enclosed, exch, orx, sltx, sub, xor, xori};
-use code_conventions::faults::{INDEX, NIL};
-use code_conventions::memory::HEADER_WORDS;
-use code_conventions::registers::{
+use code_scope::faults::{INDEX, NIL};
+use code_scope::memory::HEADER_WORDS;
+use code_scope::registers::{
     CONTENT, FRAME, LEFT, LEFT_TRUTH, NOUGHT, OBJECT, OUTCOME, RIGHT, RIGHT_TRUTH,
 };
-use paired_code::{Piece, check_equal, check_positive, empty, seq};
-use refine_form::Spot;
-use rpp_tree::tree::BinOp;
-use rpp_words::NoMemory;
+use code_scope::tree::BinOp;
+use code_scope::{NoMemory, Piece, Spot, check_equal, check_positive, empty, seq};
 use std::alloc::Global;
 
 /// The register of a storage slot's base.

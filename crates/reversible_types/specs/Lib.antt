@@ -1,2 +1,3 @@
+pub use Rattle.class_table.specs.class_rules
 pub mod ScopeView
 pub mod Verdicts

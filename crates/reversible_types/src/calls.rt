@@ -3,7 +3,7 @@ ghost use Rattle.std.specs.Prelude.{◌≡◌, ◌++◌, map};
 ghost use Rattle.std.specs.List.{list_any};
 ghost use Rattle.std.specs.Option.{is_none};
 ghost use Rattle.std.specs.Str.{bytes_eq};
-ghost use Rattle.rpp_tree.specs.Views.{procedure_of, lvalue_of, optional_lvalue_of};
+ghost use Rattle.class_table.specs.rpp_tree.Views.{procedure_of, lvalue_of, optional_lvalue_of};
 ghost use Rattle.class_table.specs.class_rules.Table.{dispatch_in};
 ghost use Rattle.class_table.specs.class_rules.Overrides.{parameters_in as methods_params, parameters_of};
 ghost use Rattle.class_table.specs.class_rules.Statements.{argument_known, argument_new, argument_fits, arguments_fit as all_fit, receiver_kind, receiver_class, plain_receiver, call_rules as of_call, each_passes, each_passes_after};
@@ -14,9 +14,8 @@ use crate::error::TypeError;
 use crate::expressions::{occurs_inside, type_place};
 use crate::scope::{Locals, Typing, kind_of_local, kind_of_name, kind_of_type};
 use crate::statements::{equal_kinds, name_of_place};
-use class_table::{Kind, methods_at};
-use rpp_tree::Text;
-use rpp_tree::tree::{Ident, Method, Place, Var};
+use class_table::tree::{Ident, Method, Place, Var};
+use class_table::{Kind, Text, methods_at};
 
 fn know_argument(
     setting: &Typing,

@@ -1,15 +1,14 @@
 // The types of expressions and places.
 ghost use Rattle.std.specs.Prelude.{◌≡◌, Bool};
-ghost use Rattle.rpp_tree.specs.Views.{expression_of, lvalue_of};
+ghost use Rattle.class_table.specs.rpp_tree.Views.{expression_of, lvalue_of};
 ghost use Rattle.reversible_types.specs.Verdicts.{verdict_of};
 ghost use Rattle.reversible_types.specs.ScopeView.{typing_of, locals_of};
 ghost use Rattle.class_table.specs.class_rules.Expressions.{is_int, element_kind, are_related, compares, is_comparison, is_refused, operands_fit, first_token as token_of, variable_type, element_kind_of, operator_type, type_of, place_type, occurs, occurs_in_index};
 
 use crate::error::TypeError;
 use crate::scope::{Locals, Typing, kind_of_name};
-use class_table::{ClassTable, Kind};
-use rpp_tree::Text;
-use rpp_tree::tree::{BinOp, Expr, Ident, Place};
+use class_table::tree::{BinOp, Ident, Place};
+use class_table::{ClassTable, Expr, Kind, Text};
 
 /// Whether a type is int.
 pub fn holds_int(kind: Kind) -> bool

@@ -11,5 +11,6 @@ mod program;
 mod scope;
 mod statements;
 
+pub use class_table::{Checked, ClassError, ClassTable};
 pub use error::TypeError;
 pub use program::check;

@@ -1,7 +1,7 @@
 // The rules of methods, classes and programs.
 ghost use Rattle.std.specs.Prelude.{◌≡◌, ◌<◌, length, [], map, IfOk, IfErr, OnOk, Err};
-ghost use Rattle.rpp_tree.specs.Views.{procedure_of, class_text_of, source_of, block_of};
-ghost use Rattle.rpp_tree.specs.Limits.{IsWithinLimits};
+ghost use Rattle.class_table.specs.rpp_tree.Views.{procedure_of, class_text_of, source_of, block_of};
+ghost use Rattle.class_table.specs.rpp_tree.Limits.{IsWithinLimits};
 ghost use Rattle.reversible_types.specs.Verdicts.{verdict_of, refusal_of};
 ghost use Rattle.reversible_types.specs.ScopeView.{typing_of, locals_of};
 ghost use Rattle.class_table.specs.class_rules.Members.{has_field};
@@ -12,9 +12,8 @@ ghost use Rattle.class_table.specs.class_rules.Program.{parameter_new, with_para
 use crate::error::TypeError;
 use crate::scope::{Locals, Typing, kind_of_type};
 use crate::statements::check_block;
-use class_table::{Checked, ClassTable};
-use rpp_tree::Text;
-use rpp_tree::tree::{Block, Class, Method, Program, Var};
+use class_table::tree::{Block, Class, Method, Program, Var};
+use class_table::{Checked, ClassTable, Text};
 
 /// Whether a variable of this name is among these.
 fn is_among(vars: &[Var], name: &Text) -> bool

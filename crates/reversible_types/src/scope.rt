@@ -5,9 +5,8 @@ ghost use Rattle.class_table.specs.class_rules.Scope.{class_kind, kind_of, field
 ghost use Rattle.class_table.specs.class_rules.Table.{class_of};
 ghost use Rattle.reversible_types.specs.ScopeView.{typing_of, locals_of};
 
-use class_table::{ClassTable, Kind};
-use rpp_tree::Text;
-use rpp_tree::tree::{Ident, Program, VarType};
+use class_table::tree::{Ident, Program, VarType};
+use class_table::{ClassTable, Kind, Text};
 
 /// The scope of a statement: the program and its table, and the class of the method.
 #[derive(Clone, Copy)]

@@ -3,20 +3,19 @@ ghost use Rattle.std.specs.Prelude.{◌≡◌, [], map, slice_get};
 ghost use Rattle.std.specs.List.{list_any};
 ghost use Rattle.std.specs.Option.{unwrap_or};
 ghost use Rattle.std.specs.Str.{bytes_eq};
-ghost use Rattle.rpp_tree.specs.Views.{procedure_of, expression_of, lvalue_of, creation_of, optional_lvalue_of, statement_of, block_of};
+ghost use Rattle.class_table.specs.rpp_tree.Views.{procedure_of, expression_of, lvalue_of, creation_of, optional_lvalue_of, statement_of, block_of};
 ghost use Rattle.reversible_types.specs.Verdicts.{verdict_of};
 ghost use Rattle.reversible_types.specs.ScopeView.{typing_of, locals_of};
 ghost use Rattle.class_table.specs.class_rules.Table.{dispatch_in};
 ghost use Rattle.class_table.specs.class_rules.Statements.{same_kind, is_class, is_class_array, is_int_array as of_ints, takes_object, takes_copy, is_nil_word, same_plain, written_kind, update_rules as of_update, swap_rules as of_swap, test_rules as of_tests, class_known, type_known, local_rules as of_local, construct_rules as of_construct, copy_rules as of_copy, made_known, length_is_int, occurs_in_length, takes as takes_made, make_rules as of_make, check_statement, check_statements};
-ghost use Rattle.rpp_tree.specs.Places.{place_name};
+ghost use Rattle.class_table.specs.rpp_tree.Places.{place_name};
 
 use crate::calls::call_rules;
 use crate::error::TypeError;
 use crate::expressions::{first_token, holds_int, occurs_in, occurs_inside, type_expr, type_place};
 use crate::scope::{Locals, Typing, kind_of_class, kind_of_local, kind_of_type};
-use class_table::{ClassTable, Kind, same_type};
-use rpp_tree::Text;
-use rpp_tree::tree::{Block, Expr, Ident, Made, Place, Stmt, Var, VarType};
+use class_table::tree::{Block, Ident, Made, Place, Var, VarType};
+use class_table::{ClassTable, Expr, Kind, Stmt, Text, same_type};
 
 /// Whether two types are equal.
 pub fn equal_kinds(a: Kind, b: Kind) -> bool

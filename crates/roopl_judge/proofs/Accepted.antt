@@ -1,16 +1,16 @@
 -- What the check of a text accepts keeps the limits that a syntax tree shows.
 use Rattle.std.proofs.Common.{ℕ, ◌≤◌, List, length, None, Ok}
-use Rattle.rpp_tree.specs.declared.limits.TheConstants.{MOST_BYTES}
-use Rattle.rpp_tree.specs.Tree.{Source}
-use Rattle.rpp_tree.specs.Limits.{IsWithinLimits}
-use Rattle.roopl_lexer.specs.declared.token.Token.{Token}
-use Rattle.roopl_lexer.proofs.Order.{readable}
+use Rattle.token_limits.specs.rpp_tree.declared.limits.TheConstants.{MOST_BYTES}
+use Rattle.token_limits.specs.rpp_tree.Tree.{Source}
+use Rattle.token_limits.specs.rpp_tree.Limits.{IsWithinLimits}
+use Rattle.token_limits.specs.roopl_lexer.declared.token.Token.{Token}
+use Rattle.token_limits.proofs.roopl_lexer_laws.Order.{readable}
 use Rattle.token_limits.proofs.roopl_parser_laws.Exact.{kept}
 use Rattle.token_limits.proofs.roopl_parser_laws.Parts.{small_tokens, within_limits}
 use Rattle.token_limits.specs.roopl_parser.Viable.{first_limit as limit_read}
 use Rattle.token_limits.specs.Limits.{count_first_limit}
 use Rattle.token_limits.proofs.Limited.{derived_limit, none_by}
-use Rattle.class_table.specs.class_rules.Program.{IsAccepted}
+use Rattle.reversible_types.specs.class_rules.Program.{IsAccepted}
 use Rattle.roopl_judge.specs.Judged.{HasTree, IsJudged, accepted}
 
 tree_within : (text : List ℕ) (tokens : List Token) (program : Source) → length text ≤ MOST_BYTES

@@ -1,26 +1,26 @@
 -- The errors of the lexer, the parser, the class table and the types as refusals of the text.
 use Rattle.std.proofs.Common.{◌≡◌, ◌≢◌, ℕ, List, length, refl, Some, Err}
 use Rattle.std.specs.Prelude.{Option}
-use Rattle.rpp_tree.specs.declared.limits.LimitKind.{LimitKind}
-use Rattle.rpp_tree.specs.Tree.{Source}
-use Rattle.roopl_lexer.specs.declared.token.Token.{Token}
-use Rattle.roopl_lexer.specs.declared.error.LexError.{LexError}
-use Rattle.roopl_lexer.specs.Tokens.{IsCutting, IsFirstRefusal, lex_refusal}
+use Rattle.token_limits.specs.rpp_tree.declared.limits.LimitKind.{LimitKind}
+use Rattle.token_limits.specs.rpp_tree.Tree.{Source}
+use Rattle.token_limits.specs.roopl_lexer.declared.token.Token.{Token}
+use Rattle.token_limits.specs.roopl_lexer.declared.error.LexError.{LexError}
+use Rattle.token_limits.specs.roopl_lexer.Tokens.{IsCutting, IsFirstRefusal, lex_refusal}
 use Rattle.token_limits.specs.roopl_parser.declared.error.ParseError.{ParseError}
 use Rattle.token_limits.specs.roopl_parser.Viable.{IsWrongAt}
 use Rattle.token_limits.specs.roopl_parser.Viable.{first_limit as limit_read}
 use Rattle.token_limits.specs.Limits.{count_first_limit}
 use Rattle.token_limits.proofs.Limited.{wrong_limit, limit_begun, none_for}
-use Rattle.class_table.specs.class_rules.declared.error.ClassError.{ClassError}
-use Rattle.class_table.specs.class_rules.Rules.{IsFirst}
-use Rattle.class_table.specs.class_rules.Program.{check_program}
-use Rattle.class_table.specs.class_rules.Refusal.{Refusal, refused, class_refusal}
-use Rattle.class_table.specs.class_rules.Table.{HasClassTable, first_class_refusal}
+use Rattle.reversible_types.specs.class_rules.declared.error.ClassError.{ClassError}
+use Rattle.reversible_types.specs.class_rules.Rules.{IsFirst}
+use Rattle.reversible_types.specs.class_rules.Program.{check_program}
+use Rattle.reversible_types.specs.class_rules.Refusal.{Refusal, refused, class_refusal}
+use Rattle.reversible_types.specs.class_rules.Table.{HasClassTable, first_class_refusal}
 use Rattle.roopl_judge.specs.Errors.{parse_refusal, error_of, IfRefused}
 use Rattle.roopl_judge.specs.Judged.{IsTree, IsJudged, not_cut, wrong_token, limit_passed, no_table, no_types}
-use Rattle.roopl_lexer.specs.declared.error.LexError.TheVariants as lex
+use Rattle.token_limits.specs.roopl_lexer.declared.error.LexError.TheVariants as lex
 use Rattle.token_limits.specs.roopl_parser.declared.error.ParseError.TheVariants as parse
-use Rattle.class_table.specs.class_rules.declared.error.ClassError.TheVariants as class
+use Rattle.reversible_types.specs.class_rules.declared.error.ClassError.TheVariants as class
 
 abbrev pub IsRefusal : List ℕ → Refusal → Type 0
 IsRefusal text refusal = IsJudged text (Err refusal)

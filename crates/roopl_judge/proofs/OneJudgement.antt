@@ -1,11 +1,11 @@
 -- A text has one result of the check.
 use Rattle.std.proofs.Common.{◌≡◌, ◌∙◌, sym, ap, subst, ℕ, List, length, refl, Some, None, Ok, Err}
 use Rattle.std.specs.Prelude.{Result}
-use Rattle.rpp_tree.specs.Tree.{Source}
-use Rattle.roopl_lexer.specs.declared.token.Token.{Token}
-use Rattle.roopl_lexer.specs.Tokens.{Cut}
-use Rattle.roopl_lexer.proofs.Unique.{one_cut}
-use Rattle.rpp_tree.specs.declared.limits.LimitKind.{LimitKind}
+use Rattle.token_limits.specs.rpp_tree.Tree.{Source}
+use Rattle.token_limits.specs.roopl_lexer.declared.token.Token.{Token}
+use Rattle.token_limits.specs.roopl_lexer.Tokens.{Cut}
+use Rattle.token_limits.proofs.roopl_lexer_laws.Unique.{one_cut}
+use Rattle.token_limits.specs.rpp_tree.declared.limits.LimitKind.{LimitKind}
 use Rattle.token_limits.specs.roopl_parser.declared.error.ParseError.TheVariants.{Syntax, Limit}
 use Rattle.token_limits.specs.roopl_parser.Grammar.{Derives}
 use Rattle.token_limits.specs.roopl_parser.Viable.{reading}
@@ -13,10 +13,10 @@ use Rattle.token_limits.specs.roopl_parser.Viable.{first_limit as limit_read}
 use Rattle.token_limits.specs.Limits.{count_first_limit}
 use Rattle.token_limits.proofs.Limited.{derived_limit, wrong_limit, begun_limit, none_by}
 use Rattle.token_limits.proofs.roopl_parser_laws.Exact.{one_tree, read_all, wrong_read, passed_read}
-use Rattle.class_table.specs.class_rules.Program.{check_program}
-use Rattle.class_table.specs.class_rules.Refusal.{Refusal, refused}
-use Rattle.class_table.specs.class_rules.Statements.{verdict_passed}
-use Rattle.class_table.specs.class_rules.Table.{HasClassTable, first_class_refusal}
+use Rattle.reversible_types.specs.class_rules.Program.{check_program}
+use Rattle.reversible_types.specs.class_rules.Refusal.{Refusal, refused}
+use Rattle.reversible_types.specs.class_rules.Statements.{verdict_passed}
+use Rattle.reversible_types.specs.class_rules.Table.{HasClassTable, first_class_refusal}
 use Rattle.roopl_judge.specs.Judged.{HasTree, IsJudged, not_cut, wrong_token, limit_passed}
 use Rattle.roopl_judge.specs.Judged.{no_table, no_types, accepted}
 

@@ -1,6 +1,6 @@
 -- Errors of a source as its refusals.
 use Rattle.std.specs.Prelude.{⊤, Option, Some, None}
-use Rattle.class_table.specs.class_rules.Refusal.{Refusal, refused}
+use Rattle.reversible_types.specs.class_rules.Refusal.{Refusal, refused}
 use Rattle.roopl_judge.specs.declared.error.SourceError.{SourceError}
 use Rattle.roopl_judge.specs.declared.error.SourceError.TheVariants.{Refused, NoMemory}
 use Rattle.token_limits.specs.roopl_parser.declared.error.ParseError.{ParseError}

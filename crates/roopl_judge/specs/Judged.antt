@@ -1,16 +1,16 @@
 -- How a text is checked: it is a program that every rule accepts, or it has a first refusal.
 use Rattle.std.specs.Prelude.{◌≡◌, ℕ, List, length, Some, None, Result, Ok, Err}
-use Rattle.rpp_tree.specs.Limits.{IsWithinLimits}
-use Rattle.rpp_tree.specs.Tree.{Source}
-use Rattle.roopl_lexer.specs.declared.token.Token.{Token}
-use Rattle.roopl_lexer.specs.Tokens.{Cut}
+use Rattle.token_limits.specs.rpp_tree.Limits.{IsWithinLimits}
+use Rattle.token_limits.specs.rpp_tree.Tree.{Source}
+use Rattle.token_limits.specs.roopl_lexer.declared.token.Token.{Token}
+use Rattle.token_limits.specs.roopl_lexer.Tokens.{Cut}
 use Rattle.token_limits.specs.roopl_parser.Grammar.{Derives}
 use Rattle.token_limits.specs.roopl_parser.Viable.{IsWrongAt}
 use Rattle.token_limits.specs.Limits.{Begins, count_first_limit}
-use Rattle.class_table.specs.class_rules.Program.{check_program}
-use Rattle.class_table.specs.class_rules.Refusal.{Refusal, refused}
-use Rattle.class_table.specs.class_rules.Statements.{verdict_passed}
-use Rattle.class_table.specs.class_rules.Table.{HasClassTable, first_class_refusal}
+use Rattle.reversible_types.specs.class_rules.Program.{check_program}
+use Rattle.reversible_types.specs.class_rules.Refusal.{Refusal, refused}
+use Rattle.reversible_types.specs.class_rules.Statements.{verdict_passed}
+use Rattle.reversible_types.specs.class_rules.Table.{HasClassTable, first_class_refusal}
 
 -- the syntax tree of a text within the limits
 pub record HasTree (text : List ℕ) (tokens : List Token) (program : Source) : Type 0 where

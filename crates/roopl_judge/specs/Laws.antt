@@ -1,9 +1,9 @@
 -- Laws of the check of texts.
 use Rattle.std.specs.Prelude.{◌≡◌, ℕ, ◌≤◌, List, length, Result, Ok}
-use Rattle.rpp_tree.specs.declared.limits.TheConstants.{MOST_BYTES}
-use Rattle.rpp_tree.specs.Tree.{Source}
-use Rattle.class_table.specs.class_rules.Program.{IsAccepted}
-use Rattle.class_table.specs.class_rules.Refusal.{Refusal}
+use Rattle.token_limits.specs.rpp_tree.declared.limits.TheConstants.{MOST_BYTES}
+use Rattle.token_limits.specs.rpp_tree.Tree.{Source}
+use Rattle.reversible_types.specs.class_rules.Program.{IsAccepted}
+use Rattle.reversible_types.specs.class_rules.Refusal.{Refusal}
 use Rattle.roopl_judge.specs.Judged.{IsJudged}
 
 abbrev pub OneJudgement : Type 0

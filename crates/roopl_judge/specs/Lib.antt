@@ -1,6 +1,6 @@
-pub use Rattle.rpp_tree.specs.rpp_words
-pub use Rattle.rpp_tree.specs as rpp_tree
-pub use Rattle.class_table.specs.class_rules
+pub use Rattle.token_limits.specs.rpp_words
+pub use Rattle.token_limits.specs.rpp_tree
+pub use Rattle.reversible_types.specs.class_rules
 pub mod Errors
 pub mod Judged
 pub mod Laws

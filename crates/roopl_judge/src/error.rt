@@ -1,16 +1,14 @@
 // What keeps a text from being a program.
 ghost use Rattle.std.specs.Prelude.{◌≡◌};
 ghost use Rattle.reversible_types.specs.Verdicts.{refusal_of};
-ghost use Rattle.class_table.specs.class_rules.Refusal.{class_refusal};
-ghost use Rattle.roopl_lexer.specs.Tokens.{lex_refusal};
+ghost use Rattle.reversible_types.specs.class_rules.Refusal.{class_refusal};
+ghost use Rattle.token_limits.specs.roopl_lexer.Tokens.{lex_refusal};
 ghost use Rattle.roopl_judge.specs.Errors.{parse_refusal, error_of};
 ghost use Rattle.roopl_judge.specs.declared.error.SourceError.TheVariants.{NoMemory};
 
-use class_table::ClassError;
-use reversible_types::TypeError;
-use roopl_lexer::LexError;
+use reversible_types::{ClassError, TypeError};
 use std::alloc::{AllocError, AllocFailed};
-use token_limits::ParseError;
+use token_limits::{LexError, ParseError};
 
 /// Why a source is no program.
 #[derive(Debug, Drop)]

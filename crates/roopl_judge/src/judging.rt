@@ -1,20 +1,18 @@
 // Checks a text: the lexer, the parser, the class table and the types, in this order.
 ghost use Rattle.std.specs.Prelude.{◌≡◌, ◌≤◌, length, IfOk, IfErr, OnOk, Ok, Err};
-ghost use Rattle.rpp_tree.specs.declared.limits.TheConstants.{MOST_BYTES};
-ghost use Rattle.rpp_tree.specs.Views.{source_of};
-ghost use Rattle.class_table.specs.class_rules.Table.{table_of, HasClassTable};
-ghost use Rattle.roopl_lexer.specs.Readable.{AreReadable};
-ghost use Rattle.roopl_lexer.specs.Tokens.{IsCutting};
+ghost use Rattle.token_limits.specs.rpp_tree.declared.limits.TheConstants.{MOST_BYTES};
+ghost use Rattle.token_limits.specs.rpp_tree.Views.{source_of};
+ghost use Rattle.reversible_types.specs.class_rules.Table.{table_of, HasClassTable};
+ghost use Rattle.token_limits.specs.roopl_lexer.Readable.{AreReadable};
+ghost use Rattle.token_limits.specs.roopl_lexer.Tokens.{IsCutting};
 ghost use Rattle.roopl_judge.specs.Errors.{IfRefused};
 ghost use Rattle.roopl_judge.specs.Judged.{IsTree, IsJudged};
 
 use crate::error::{SourceError, of_class_table, of_lexer, of_parser, of_types};
-use class_table::{Checked, ClassTable};
-use reversible_types::check;
-use roopl_lexer::{Token, lex};
-use rpp_tree::tree::Program;
+use reversible_types::{Checked, ClassTable, check};
 use std::alloc::Global;
-use token_limits::parse;
+use token_limits::tree::Program;
+use token_limits::{Token, lex, parse};
 
 /// The program of a text, or its first refusal.
 pub fn judge(alloc: Global, text: &[u8]) -> Result<Checked, SourceError>

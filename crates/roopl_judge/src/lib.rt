@@ -9,3 +9,5 @@ mod laws;
 pub use error::SourceError;
 pub use judging::judge;
 pub use laws::{judged_is_accepted, one_judgement};
+pub use reversible_types::Checked;
+pub use token_limits::tree;

@@ -5,7 +5,7 @@ ghost use Rattle.std.specs.Char.{is_ascii_digit};
 ghost use Rattle.rpp_tree.specs.rpp_words.Names.{is_name_byte};
 ghost use Rattle.roopl_lexer.specs.Tokens.{is_white, begins_comment, comment_length};
 
-use rpp_words::is_name_byte;
+use rpp_tree::is_name_byte;
 
 /// Whether a byte is white space.
 pub fn is_white(byte: u8) -> bool

@@ -3,19 +3,19 @@ use Rattle.std.specs.Prelude.{◌≡◌, ◌≢◌, ◌<◌, ℕ, true, nat_lt, 
 use Rattle.std.specs.Prelude.{None, Result, Ok, Err, IfOk, MatchResult, refl}
 use Rattle.std.proofs.Common.{sym, ap, ◌∙◌, lt-ltb}
 use Rattle.std.proofs.Math.Seq.{drop-cons}
-use Rattle.rpp_tree.specs.Tree.{ClassText, Source}
-use Rattle.rpp_tree.specs.Views.{source_of}
-use Rattle.rpp_tree.specs.Limits.{IsWithinLimits}
-use Rattle.rpp_tree.specs.declared.tree.Program.{Program}
-use Rattle.rpp_tree.specs.declared.limits.LimitKind.{LimitKind}
-use Rattle.rpp_tree.specs.declared.limits.LimitKind.TheVariants.{Tokens}
+use Rattle.roopl_lexer.specs.rpp_tree.Tree.{ClassText, Source}
+use Rattle.roopl_lexer.specs.rpp_tree.Views.{source_of}
+use Rattle.roopl_lexer.specs.rpp_tree.Limits.{IsWithinLimits}
+use Rattle.roopl_lexer.specs.rpp_tree.declared.tree.Program.{Program}
+use Rattle.roopl_lexer.specs.rpp_tree.declared.limits.LimitKind.{LimitKind}
+use Rattle.roopl_lexer.specs.rpp_tree.declared.limits.LimitKind.TheVariants.{Tokens}
 use Rattle.roopl_lexer.specs.declared.token.Token.{Token}
 use Rattle.roopl_parser.specs.declared.error.ParseError.{ParseError}
 use Rattle.roopl_parser.specs.declared.error.ParseError.TheVariants.{Syntax, Limit, NoMemory}
 use Rattle.roopl_parser.specs.Grammar.{Derives}
 use Rattle.roopl_parser.specs.Readable.{AreSmallTokens, IsReadable}
 use Rattle.roopl_parser.specs.Reader.{ParsedValue, Classes, Program as AProgram, scan}
-use Rattle.rpp_tree.specs.declared.limits.TheConstants.{MOST_TOKENS}
+use Rattle.roopl_lexer.specs.rpp_tree.declared.limits.TheConstants.{MOST_TOKENS}
 use Rattle.roopl_parser.specs.Viable.{IsWrongAt, IsTokenReached, first_limit, offset_at, unless, reading}
 use Rattle.roopl_parser.proofs.Exact.{read_tree, read_syntax, read_limit, read_all, kept, wrong_read, passed_read}
 use Rattle.roopl_parser.proofs.Parts.{within_limits}

@@ -4,21 +4,21 @@ use Rattle.std.specs.Prelude.{Option, Some, None, Result, All, cond, nat_eq, nat
 use Rattle.std.proofs.lemmas.Bool.Decides.{nat_tests}
 use Rattle.std.proofs.lemmas.List.Elements.{All-head, All-tail}
 use Rattle.std.proofs.Common.{zero, sym, ap, ◌∙◌, append_assoc, append-nil, arith, lt-ltb, add-one, add-zero}
-use Rattle.rpp_tree.specs.declared.limits.TheConstants.{MOST_NODES, MOST_INDEX_DEPTH, MOST_CLASSES, MOST_PARAMETERS}
-use Rattle.rpp_tree.specs.declared.limits.TheConstants.{MOST_LOCALS, MOST_NESTING, MOST_PARENS}
-use Rattle.rpp_tree.specs.Tree.{nodes, index_nodes, creation_nodes, statement_depth, depth, Then}
-use Rattle.rpp_tree.specs.Limits.{index_depth, lvalue_index_depth, creation_index_depth, statement_locals, locals}
-use Rattle.rpp_tree.specs.Limits.{IsSmallStatement, IsSmallMethod}
-use Rattle.rpp_tree.specs.declared.tree.Ident.{Ident}
-use Rattle.rpp_tree.specs.declared.tree.Var.{Var}
-use Rattle.rpp_tree.specs.declared.tree.VarType.{VarType}
-use Rattle.rpp_tree.specs.declared.tree.VarType.TheVariants as kind
-use Rattle.rpp_tree.specs.declared.tree.BinOp.{BinOp}
-use Rattle.rpp_tree.specs.declared.tree.UpdateOp.{UpdateOp}
-use Rattle.rpp_tree.specs.Tree.{Expression, Number, Null, Binary, Lvalue, Whole, Item, Creation, Statement, Statements}
-use Rattle.rpp_tree.specs.Tree.{Update, Swap, If, From, Construct, Local, New, Delete, Copy, Uncopy, Call, Skip}
-use Rattle.rpp_tree.specs.Tree.{Procedure, ClassText}
-use Rattle.rpp_tree.specs.Views.{statements_of}
+use Rattle.roopl_lexer.specs.rpp_tree.declared.limits.TheConstants.{MOST_NODES, MOST_INDEX_DEPTH, MOST_CLASSES, MOST_PARAMETERS}
+use Rattle.roopl_lexer.specs.rpp_tree.declared.limits.TheConstants.{MOST_LOCALS, MOST_NESTING, MOST_PARENS}
+use Rattle.roopl_lexer.specs.rpp_tree.Tree.{nodes, index_nodes, creation_nodes, statement_depth, depth, Then}
+use Rattle.roopl_lexer.specs.rpp_tree.Limits.{index_depth, lvalue_index_depth, creation_index_depth, statement_locals, locals}
+use Rattle.roopl_lexer.specs.rpp_tree.Limits.{IsSmallStatement, IsSmallMethod}
+use Rattle.roopl_lexer.specs.rpp_tree.declared.tree.Ident.{Ident}
+use Rattle.roopl_lexer.specs.rpp_tree.declared.tree.Var.{Var}
+use Rattle.roopl_lexer.specs.rpp_tree.declared.tree.VarType.{VarType}
+use Rattle.roopl_lexer.specs.rpp_tree.declared.tree.VarType.TheVariants as kind
+use Rattle.roopl_lexer.specs.rpp_tree.declared.tree.BinOp.{BinOp}
+use Rattle.roopl_lexer.specs.rpp_tree.declared.tree.UpdateOp.{UpdateOp}
+use Rattle.roopl_lexer.specs.rpp_tree.Tree.{Expression, Number, Null, Binary, Lvalue, Whole, Item, Creation, Statement, Statements}
+use Rattle.roopl_lexer.specs.rpp_tree.Tree.{Update, Swap, If, From, Construct, Local, New, Delete, Copy, Uncopy, Call, Skip}
+use Rattle.roopl_lexer.specs.rpp_tree.Tree.{Procedure, ClassText}
+use Rattle.roopl_lexer.specs.rpp_tree.Views.{statements_of}
 use Rattle.roopl_lexer.specs.declared.token.Token.{Token}
 use Rattle.roopl_lexer.specs.declared.token.TokenKind.{TokenKind}
 use Rattle.roopl_lexer.specs.declared.token.TokenKind.TheVariants.{Word, Name, Sign}

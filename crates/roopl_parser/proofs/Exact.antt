@@ -2,10 +2,10 @@
 use Rattle.std.specs.Prelude.{◌≡◌, ◌≢◌, ℕ, ◌≤◌, Bool, true, false, IsTrue, List, [], ◌∷◌, ◌++◌, length, drop, nat_lt}
 use Rattle.std.specs.Prelude.{cond, Option, Some, None, Result, Ok, Err, refl}
 use Rattle.std.proofs.Common.{subst, sym, ap, ◌∙◌, inl, inr, arith, le-ltb}
-use Rattle.rpp_tree.specs.Tree.{ClassText, Source}
-use Rattle.rpp_tree.specs.declared.limits.LimitKind.{LimitKind}
-use Rattle.rpp_tree.specs.declared.limits.LimitKind.TheVariants.{Tokens}
-use Rattle.rpp_tree.specs.declared.limits.TheConstants.{MOST_TOKENS, MOST_PARENS}
+use Rattle.roopl_lexer.specs.rpp_tree.Tree.{ClassText, Source}
+use Rattle.roopl_lexer.specs.rpp_tree.declared.limits.LimitKind.{LimitKind}
+use Rattle.roopl_lexer.specs.rpp_tree.declared.limits.LimitKind.TheVariants.{Tokens}
+use Rattle.roopl_lexer.specs.rpp_tree.declared.limits.TheConstants.{MOST_TOKENS, MOST_PARENS}
 use Rattle.roopl_lexer.specs.declared.token.Token.{Token}
 use Rattle.roopl_parser.specs.declared.error.ParseError.{ParseError}
 use Rattle.roopl_parser.specs.declared.error.ParseError.TheVariants.{Syntax, Limit}

@@ -2,7 +2,7 @@
 use Rattle.std.specs.Prelude.{◌≡◌, ◌≢◌, ℕ, Bool, true, false, List, [], ◌∷◌, ◌++◌, Option, Some, None, Result, Ok, Err}
 use Rattle.std.specs.Prelude.{refl}
 use Rattle.std.proofs.Common.{subst, sym, ap}
-use Rattle.rpp_tree.specs.declared.limits.LimitKind.{LimitKind}
+use Rattle.roopl_lexer.specs.rpp_tree.declared.limits.LimitKind.{LimitKind}
 use Rattle.roopl_lexer.specs.declared.token.Token.{Token}
 use Rattle.roopl_lexer.specs.declared.token.Symbol.TheVariants as sign
 use Rattle.roopl_parser.specs.declared.error.ParseError.{ParseError}

@@ -3,20 +3,20 @@ use Rattle.std.specs.Prelude.{◌≡◌, ℕ, suc, ◌+◌, ◌<◌, ◌≤◌, 
 use Rattle.std.specs.Prelude.{Some, None, Result, Ok, All, cond, nat_lt, refl}
 use Rattle.std.proofs.lemmas.List.Elements.{All-cons, All-nil}
 use Rattle.std.proofs.Common.{sym, ap, ◌∙◌, arith, ltb-true}
-use Rattle.rpp_tree.specs.declared.limits.LimitKind.{LimitKind}
-use Rattle.rpp_tree.specs.declared.limits.LimitKind.TheVariants as limit
-use Rattle.rpp_tree.specs.declared.limits.TheConstants.{MOST_NODES, MOST_INDEX_DEPTH, MOST_CLASSES, MOST_PARAMETERS}
-use Rattle.rpp_tree.specs.declared.limits.TheConstants.{MOST_LOCALS, MOST_NESTING, MOST_PARENS}
-use Rattle.rpp_tree.specs.Tree.{nodes, index_nodes, creation_nodes, statement_depth}
-use Rattle.rpp_tree.specs.Limits.{index_depth, lvalue_index_depth, creation_index_depth, statement_locals, locals}
-use Rattle.rpp_tree.specs.Limits.{IsSmallMethod}
-use Rattle.rpp_tree.specs.declared.tree.Ident.{Ident}
-use Rattle.rpp_tree.specs.declared.tree.Var.{Var}
-use Rattle.rpp_tree.specs.declared.tree.VarType.TheVariants as kind
-use Rattle.rpp_tree.specs.declared.tree.BinOp.{BinOp}
-use Rattle.rpp_tree.specs.Tree.{Expression, Number, Null, Lvalue, Creation, Statement, Statements, Skip, Procedure}
-use Rattle.rpp_tree.specs.Tree.{ClassText}
-use Rattle.rpp_tree.specs.Views.{statements_of}
+use Rattle.roopl_lexer.specs.rpp_tree.declared.limits.LimitKind.{LimitKind}
+use Rattle.roopl_lexer.specs.rpp_tree.declared.limits.LimitKind.TheVariants as limit
+use Rattle.roopl_lexer.specs.rpp_tree.declared.limits.TheConstants.{MOST_NODES, MOST_INDEX_DEPTH, MOST_CLASSES, MOST_PARAMETERS}
+use Rattle.roopl_lexer.specs.rpp_tree.declared.limits.TheConstants.{MOST_LOCALS, MOST_NESTING, MOST_PARENS}
+use Rattle.roopl_lexer.specs.rpp_tree.Tree.{nodes, index_nodes, creation_nodes, statement_depth}
+use Rattle.roopl_lexer.specs.rpp_tree.Limits.{index_depth, lvalue_index_depth, creation_index_depth, statement_locals, locals}
+use Rattle.roopl_lexer.specs.rpp_tree.Limits.{IsSmallMethod}
+use Rattle.roopl_lexer.specs.rpp_tree.declared.tree.Ident.{Ident}
+use Rattle.roopl_lexer.specs.rpp_tree.declared.tree.Var.{Var}
+use Rattle.roopl_lexer.specs.rpp_tree.declared.tree.VarType.TheVariants as kind
+use Rattle.roopl_lexer.specs.rpp_tree.declared.tree.BinOp.{BinOp}
+use Rattle.roopl_lexer.specs.rpp_tree.Tree.{Expression, Number, Null, Lvalue, Creation, Statement, Statements, Skip, Procedure}
+use Rattle.roopl_lexer.specs.rpp_tree.Tree.{ClassText}
+use Rattle.roopl_lexer.specs.rpp_tree.Views.{statements_of}
 use Rattle.roopl_lexer.specs.declared.token.Token.{Token}
 use Rattle.roopl_lexer.specs.declared.token.TokenKind.{TokenKind}
 use Rattle.roopl_lexer.specs.declared.token.TokenKind.TheVariants.{Word, Name, Sign}

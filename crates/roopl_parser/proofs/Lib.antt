@@ -1,4 +1,4 @@
-pub use Rattle.rpp_tree.proofs as rpp_tree_laws
+pub use Rattle.roopl_lexer.proofs.rpp_tree_laws
 pub use Rattle.roopl_lexer.proofs as roopl_lexer_laws
 pub mod ReadRows
 pub mod Moves

@@ -1,8 +1,8 @@
 -- More of how reading goes on over what takes no token.
 use Rattle.std.specs.Prelude.{◌≡◌, ℕ, ◌<◌, ◌≤◌, Bool, true, false, List, [], ◌∷◌, cond, Result, Ok, Err, None, refl}
 use Rattle.std.proofs.Common.{ap, ◌∙◌, lt-ltb, le-ltb}
-use Rattle.rpp_tree.specs.declared.limits.LimitKind.TheVariants as limit
-use Rattle.rpp_tree.specs.declared.limits.TheConstants.{MOST_PARAMETERS}
+use Rattle.roopl_lexer.specs.rpp_tree.declared.limits.LimitKind.TheVariants as limit
+use Rattle.roopl_lexer.specs.rpp_tree.declared.limits.TheConstants.{MOST_PARAMETERS}
 use Rattle.roopl_lexer.specs.declared.token.Token.{Token}
 use Rattle.roopl_lexer.specs.declared.token.TokenKind.{TokenKind}
 use Rattle.roopl_lexer.specs.declared.token.TokenKind.TheVariants as token

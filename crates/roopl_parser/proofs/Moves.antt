@@ -3,12 +3,12 @@ use Rattle.std.specs.Prelude.{◌≡◌, ℕ, suc, pred, ◌-◌, ◌<◌, ◌�
 use Rattle.std.specs.Prelude.{Option, Some, None, Box, refl}
 use Rattle.std.specs.declared.alloc.Global.{Global}
 use Rattle.std.proofs.Common.{sym, ◌∙◌, zero, ap, arith, lt-ltb, le-ltb}
-use Rattle.rpp_tree.specs.declared.limits.LimitKind.TheVariants as limit
-use Rattle.rpp_tree.specs.declared.limits.TheConstants.{MOST_CLASSES}
-use Rattle.rpp_tree.specs.declared.tree.Ident.{Ident}
-use Rattle.rpp_tree.specs.declared.tree.Expr.{back-Place-index}
-use Rattle.rpp_tree.specs.declared.tree.Expr.{Expr}
-use Rattle.rpp_tree.specs.Views.{lvalue_with, read_of}
+use Rattle.roopl_lexer.specs.rpp_tree.declared.limits.LimitKind.TheVariants as limit
+use Rattle.roopl_lexer.specs.rpp_tree.declared.limits.TheConstants.{MOST_CLASSES}
+use Rattle.roopl_lexer.specs.rpp_tree.declared.tree.Ident.{Ident}
+use Rattle.roopl_lexer.specs.rpp_tree.declared.tree.Expr.{back-Place-index}
+use Rattle.roopl_lexer.specs.rpp_tree.declared.tree.Expr.{Expr}
+use Rattle.roopl_lexer.specs.rpp_tree.Views.{lvalue_with, read_of}
 use Rattle.roopl_lexer.specs.declared.token.Token.{Token}
 use Rattle.roopl_lexer.specs.declared.token.TokenKind.{TokenKind}
 use Rattle.roopl_lexer.specs.declared.token.TokenKind.TheVariants as token

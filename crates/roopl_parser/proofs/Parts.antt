@@ -6,24 +6,24 @@ use Rattle.std.specs.Prelude.{sum_by}
 use Rattle.std.specs.List.{AllByRecursion, All}
 use Rattle.std.proofs.lemmas.List.Elements.{All-from_recursion, recursion_from_All}
 use Rattle.std.proofs.lemmas.List.Sums.{sum_by-cons}
-use Rattle.rpp_tree.specs.declared.limits.TheConstants.{MOST_BYTES, MOST_TOKENS}
-use Rattle.rpp_tree.specs.declared.tree.Ident.{Ident}
-use Rattle.rpp_tree.specs.declared.tree.Var.{Var}
-use Rattle.rpp_tree.specs.declared.tree.VarType.{VarType}
-use Rattle.rpp_tree.specs.declared.tree.VarType.TheVariants as kind
-use Rattle.rpp_tree.specs.declared.tree.BinOp.{BinOp}
-use Rattle.rpp_tree.specs.declared.tree.UpdateOp.{UpdateOp}
-use Rattle.rpp_tree.specs.Tree.{Expression, Lvalue, Whole, Item, Creation, Statement, Statements, Procedure, ClassText}
-use Rattle.rpp_tree.specs.Tree.{Source}
-use Rattle.rpp_tree.specs.Views.{statements_of}
-use Rattle.rpp_tree.specs.Names.{IsName}
-use Rattle.rpp_tree.specs.Limits.{IsWithinLimits}
-use Rattle.rpp_tree.specs.Parts.{expression_names, lvalue_names, creation_names, type_names, var_names, statement_names}
-use Rattle.rpp_tree.specs.Parts.{block_names, procedure_names, parent_names, class_names, source_names, name_places}
-use Rattle.rpp_tree.specs.Parts.{expression_places, lvalue_places, creation_places, var_places, statement_places}
-use Rattle.rpp_tree.specs.Parts.{block_places, procedure_places, class_places, source_places, expression_tokens}
-use Rattle.rpp_tree.specs.Parts.{lvalue_tokens, creation_tokens, type_tokens, var_tokens, list_tokens, statement_tokens}
-use Rattle.rpp_tree.specs.Parts.{block_tokens, procedure_tokens, parent_tokens, class_tokens, source_tokens}
+use Rattle.roopl_lexer.specs.rpp_tree.declared.limits.TheConstants.{MOST_BYTES, MOST_TOKENS}
+use Rattle.roopl_lexer.specs.rpp_tree.declared.tree.Ident.{Ident}
+use Rattle.roopl_lexer.specs.rpp_tree.declared.tree.Var.{Var}
+use Rattle.roopl_lexer.specs.rpp_tree.declared.tree.VarType.{VarType}
+use Rattle.roopl_lexer.specs.rpp_tree.declared.tree.VarType.TheVariants as kind
+use Rattle.roopl_lexer.specs.rpp_tree.declared.tree.BinOp.{BinOp}
+use Rattle.roopl_lexer.specs.rpp_tree.declared.tree.UpdateOp.{UpdateOp}
+use Rattle.roopl_lexer.specs.rpp_tree.Tree.{Expression, Lvalue, Whole, Item, Creation, Statement, Statements, Procedure, ClassText}
+use Rattle.roopl_lexer.specs.rpp_tree.Tree.{Source}
+use Rattle.roopl_lexer.specs.rpp_tree.Views.{statements_of}
+use Rattle.roopl_lexer.specs.rpp_tree.Names.{IsName}
+use Rattle.roopl_lexer.specs.rpp_tree.Limits.{IsWithinLimits}
+use Rattle.roopl_lexer.specs.rpp_tree.Parts.{expression_names, lvalue_names, creation_names, type_names, var_names, statement_names}
+use Rattle.roopl_lexer.specs.rpp_tree.Parts.{block_names, procedure_names, parent_names, class_names, source_names, name_places}
+use Rattle.roopl_lexer.specs.rpp_tree.Parts.{expression_places, lvalue_places, creation_places, var_places, statement_places}
+use Rattle.roopl_lexer.specs.rpp_tree.Parts.{block_places, procedure_places, class_places, source_places, expression_tokens}
+use Rattle.roopl_lexer.specs.rpp_tree.Parts.{lvalue_tokens, creation_tokens, type_tokens, var_tokens, list_tokens, statement_tokens}
+use Rattle.roopl_lexer.specs.rpp_tree.Parts.{block_tokens, procedure_tokens, parent_tokens, class_tokens, source_tokens}
 use Rattle.roopl_lexer.specs.declared.token.Token.{Token}
 use Rattle.roopl_lexer.specs.declared.token.TokenKind.{TokenKind}
 use Rattle.roopl_lexer.specs.declared.token.TokenKind.TheVariants.{Word, Name, Number, Sign}
@@ -31,22 +31,22 @@ use Rattle.roopl_lexer.specs.declared.token.Keyword.{Keyword}
 use Rattle.roopl_lexer.specs.Readable.{IsNameToken, name_length}
 use Rattle.roopl_lexer.specs.Tokens.{is_too_large, comment_length, IsCutting, Cut, finish, white, comment, token}
 use Rattle.roopl_lexer.specs.Tokens.{bad_byte, too_large}
-use Rattle.rpp_tree.specs.Refusal.{Refusal}
-use Rattle.rpp_tree.specs.declared.limits.TheConstants.{MOST_NUMBER}
+use Rattle.roopl_lexer.specs.rpp_tree.Refusal.{Refusal}
+use Rattle.roopl_lexer.specs.rpp_tree.declared.limits.TheConstants.{MOST_NUMBER}
 use Rattle.roopl_parser.specs.Operators.{Span, tok, ident, operator_at, update_operator}
 use Rattle.roopl_parser.specs.Grammar as grammar
 use Rattle.roopl_parser.specs.Grammar.{lvalue_read, IsExpr, IsIndexed, IsPlace, IsType, IsVar, IsSized, IsMade}
 use Rattle.roopl_parser.specs.Grammar.{IsMoreNames, IsNames, IsTarget, IsAssigned, IsStatement, IsBranches, IsScope}
 use Rattle.roopl_parser.specs.Grammar.{IsBlock, IsStatements, IsMoreParams, IsParams, IsMethod, IsMethods, IsFields}
 use Rattle.roopl_parser.specs.Grammar.{IsParent, IsClass, IsClasses, Derives}
-use Rattle.rpp_tree.specs.declared.limits.LimitKind.TheVariants as limit
+use Rattle.roopl_lexer.specs.rpp_tree.declared.limits.LimitKind.TheVariants as limit
 use Rattle.roopl_parser.specs.declared.error.ParseError.{ParseError}
 use Rattle.roopl_parser.specs.declared.error.ParseError.TheVariants.{Limit}
 use Rattle.roopl_parser.specs.Reader.{Classes, Program}
 use Rattle.roopl_parser.specs.Viable.{IsSmall, first_limit, or_else, passes, offset_at}
 use Rattle.roopl_parser.specs.Readable.{AreSmallTokens, IsReadable}
-use Rattle.rpp_tree.specs.Numbers.{expression_numbers, lvalue_numbers, creation_numbers, statement_numbers}
-use Rattle.rpp_tree.specs.Numbers.{block_numbers, procedure_numbers, class_numbers, source_numbers}
+use Rattle.roopl_lexer.specs.rpp_tree.Numbers.{expression_numbers, lvalue_numbers, creation_numbers, statement_numbers}
+use Rattle.roopl_lexer.specs.rpp_tree.Numbers.{block_numbers, procedure_numbers, class_numbers, source_numbers}
 
 -- ---- the parts of tokens
 

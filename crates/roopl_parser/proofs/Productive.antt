@@ -1,11 +1,11 @@
 -- What is awaited may come: every stack can be completed.
 use Rattle.std.specs.Prelude.{ℕ, suc, List, [], ◌∷◌, ◌++◌, None, refl}
 use Rattle.std.proofs.Common.{zero, inl}
-use Rattle.rpp_tree.specs.declared.tree.Ident.{Ident}
-use Rattle.rpp_tree.specs.declared.tree.Var.{Var}
-use Rattle.rpp_tree.specs.declared.tree.VarType.TheVariants as kind
-use Rattle.rpp_tree.specs.Tree.{Number, Whole, Object, Statements, Swap, Call, Skip}
-use Rattle.rpp_tree.specs.Views.{statements_of}
+use Rattle.roopl_lexer.specs.rpp_tree.declared.tree.Ident.{Ident}
+use Rattle.roopl_lexer.specs.rpp_tree.declared.tree.Var.{Var}
+use Rattle.roopl_lexer.specs.rpp_tree.declared.tree.VarType.TheVariants as kind
+use Rattle.roopl_lexer.specs.rpp_tree.Tree.{Number, Whole, Object, Statements, Swap, Call, Skip}
+use Rattle.roopl_lexer.specs.rpp_tree.Views.{statements_of}
 use Rattle.roopl_lexer.specs.declared.token.Token.{Token}
 use Rattle.roopl_lexer.specs.declared.token.TokenKind.TheVariants.{Word, Name, Sign}
 use Rattle.roopl_lexer.specs.declared.token.TokenKind.TheVariants as token

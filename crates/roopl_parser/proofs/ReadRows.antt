@@ -1,9 +1,9 @@
 -- Reading computes on whole lists of tokens.
 use Rattle.std.specs.Prelude.{◌≡◌, ℕ, List, [], ◌∷◌, None, Ok, Err, refl, codes}
-use Rattle.rpp_tree.specs.declared.tree.VarType.TheVariants as kind
-use Rattle.rpp_tree.specs.declared.tree.BinOp.TheVariants as op
-use Rattle.rpp_tree.specs.declared.tree.UpdateOp.TheVariants as update
-use Rattle.rpp_tree.specs.Tree.{Number, Binary, Whole, Update, End, Then, ClassText}
+use Rattle.roopl_lexer.specs.rpp_tree.declared.tree.VarType.TheVariants as kind
+use Rattle.roopl_lexer.specs.rpp_tree.declared.tree.BinOp.TheVariants as op
+use Rattle.roopl_lexer.specs.rpp_tree.declared.tree.UpdateOp.TheVariants as update
+use Rattle.roopl_lexer.specs.rpp_tree.Tree.{Number, Binary, Whole, Update, End, Then, ClassText}
 use Rattle.roopl_lexer.specs.declared.token.Token.{Token}
 use Rattle.roopl_lexer.specs.declared.token.TokenKind.{TokenKind}
 use Rattle.roopl_lexer.specs.declared.token.TokenKind.TheVariants.{Word, Name, Number as Numeral, Sign}

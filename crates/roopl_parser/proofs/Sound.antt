@@ -1,17 +1,17 @@
 -- What may come for a stack, by the grammar; and that each step keeps to it.
 use Rattle.std.specs.Prelude.{◌≡◌, Ok, ℕ, suc, Bool, List, [], ◌∷◌, ◌++◌, Option, Some, None, ◌⊎◌, refl}
 use Rattle.std.proofs.Common.{zero, subst, sym, inl, inr, append_assoc, ap, ◌∙◌, cond}
-use Rattle.rpp_tree.specs.declared.tree.Ident.{Ident}
-use Rattle.rpp_tree.specs.declared.tree.Var.{Var}
-use Rattle.rpp_tree.specs.declared.tree.VarType.{VarType}
-use Rattle.rpp_tree.specs.declared.tree.VarType.TheVariants as kind
-use Rattle.rpp_tree.specs.declared.tree.BinOp.{BinOp}
-use Rattle.rpp_tree.specs.declared.tree.BinOp.TheVariants as op
-use Rattle.rpp_tree.specs.declared.tree.UpdateOp.{UpdateOp}
-use Rattle.rpp_tree.specs.Tree.{Expression, Number, Null, Binary, Lvalue, Whole, Item, Creation, Object, Ints, Objects}
-use Rattle.rpp_tree.specs.Tree.{Statement, Statements, Update, Swap, If, From, Construct, Local, New, Delete, Copy}
-use Rattle.rpp_tree.specs.Tree.{Uncopy, Call, Skip, Procedure, ClassText}
-use Rattle.rpp_tree.specs.Views.{statements_of}
+use Rattle.roopl_lexer.specs.rpp_tree.declared.tree.Ident.{Ident}
+use Rattle.roopl_lexer.specs.rpp_tree.declared.tree.Var.{Var}
+use Rattle.roopl_lexer.specs.rpp_tree.declared.tree.VarType.{VarType}
+use Rattle.roopl_lexer.specs.rpp_tree.declared.tree.VarType.TheVariants as kind
+use Rattle.roopl_lexer.specs.rpp_tree.declared.tree.BinOp.{BinOp}
+use Rattle.roopl_lexer.specs.rpp_tree.declared.tree.BinOp.TheVariants as op
+use Rattle.roopl_lexer.specs.rpp_tree.declared.tree.UpdateOp.{UpdateOp}
+use Rattle.roopl_lexer.specs.rpp_tree.Tree.{Expression, Number, Null, Binary, Lvalue, Whole, Item, Creation, Object, Ints, Objects}
+use Rattle.roopl_lexer.specs.rpp_tree.Tree.{Statement, Statements, Update, Swap, If, From, Construct, Local, New, Delete, Copy}
+use Rattle.roopl_lexer.specs.rpp_tree.Tree.{Uncopy, Call, Skip, Procedure, ClassText}
+use Rattle.roopl_lexer.specs.rpp_tree.Views.{statements_of}
 use Rattle.roopl_lexer.specs.declared.token.Token.{Token}
 use Rattle.roopl_lexer.specs.declared.token.TokenKind.{TokenKind}
 use Rattle.roopl_lexer.specs.declared.token.TokenKind.TheVariants.{Word, Name, Sign}

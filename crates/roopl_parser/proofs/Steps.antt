@@ -2,8 +2,8 @@
 use Rattle.std.specs.Prelude.{◌≡◌, ℕ, suc, pred, ◌+◌, ◌-◌, ◌<◌, Bool, true, false, cond, List, ◌∷◌, Result}
 use Rattle.std.specs.Prelude.{Some, nat_lt, refl}
 use Rattle.std.proofs.Common.{sym, ◌∙◌, ap, lt-ltb, add-one}
-use Rattle.rpp_tree.specs.declared.tree.BinOp.{BinOp}
-use Rattle.rpp_tree.specs.declared.limits.TheConstants.{MOST_NODES, MOST_INDEX_DEPTH, MOST_PARENS}
+use Rattle.roopl_lexer.specs.rpp_tree.declared.tree.BinOp.{BinOp}
+use Rattle.roopl_lexer.specs.rpp_tree.declared.limits.TheConstants.{MOST_NODES, MOST_INDEX_DEPTH, MOST_PARENS}
 use Rattle.roopl_lexer.specs.declared.token.Token.{Token}
 use Rattle.roopl_lexer.specs.declared.token.Symbol.TheVariants as sign
 use Rattle.roopl_parser.specs.declared.error.ParseError.{ParseError}

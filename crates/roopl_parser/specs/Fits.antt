@@ -1,10 +1,10 @@
 -- Statements and blocks that keep the limits at their depth: d statements and l locals enclose
 -- them.
 use Rattle.std.specs.Prelude.{ℕ, ◌+◌, ◌≤◌}
-use Rattle.rpp_tree.specs.Tree.{Statement, Statements, depth, statement_depth}
-use Rattle.rpp_tree.specs.Limits.{locals, statement_locals, IsSmallStatement, AreSmall}
-use Rattle.rpp_tree.specs.Limits.{AreInnerSmall}
-use Rattle.rpp_tree.specs.declared.limits.TheConstants.{MOST_NESTING, MOST_LOCALS}
+use Rattle.roopl_lexer.specs.rpp_tree.Tree.{Statement, Statements, depth, statement_depth}
+use Rattle.roopl_lexer.specs.rpp_tree.Limits.{locals, statement_locals, IsSmallStatement, AreSmall}
+use Rattle.roopl_lexer.specs.rpp_tree.Limits.{AreInnerSmall}
+use Rattle.roopl_lexer.specs.rpp_tree.declared.limits.TheConstants.{MOST_NESTING, MOST_LOCALS}
 
 pub record Fits (d l : ℕ) (statement : Statement) : Type 0 where
   pub nested : d + statement_depth statement ≤ MOST_NESTING

@@ -1,16 +1,16 @@
 -- The grammar: which tokens are what, up to a rest. One case for each production.
 use Rattle.std.specs.Prelude.{◌≡◌, ℕ, suc, Bool, true, false, List, [], ◌∷◌, Option, Some, None}
-use Rattle.rpp_tree.specs.declared.tree.Ident.{Ident}
-use Rattle.rpp_tree.specs.declared.tree.Var.{Var}
-use Rattle.rpp_tree.specs.declared.tree.VarType.{VarType}
-use Rattle.rpp_tree.specs.declared.tree.VarType.TheVariants as kind
-use Rattle.rpp_tree.specs.declared.tree.BinOp.{BinOp}
-use Rattle.rpp_tree.specs.declared.tree.UpdateOp.{UpdateOp}
-use Rattle.rpp_tree.specs.Tree.{Expression, Number, Null, Binary, Lvalue, Whole}
-use Rattle.rpp_tree.specs.Tree.{Item, Creation, Object, Ints, Objects, Statement, Statements}
-use Rattle.rpp_tree.specs.Tree.{Update, Swap, If, From, Construct, Local, New, Delete, Copy, Uncopy}
-use Rattle.rpp_tree.specs.Tree.{Call, Skip, Procedure, ClassText, Source}
-use Rattle.rpp_tree.specs.Views.{statements_of}
+use Rattle.roopl_lexer.specs.rpp_tree.declared.tree.Ident.{Ident}
+use Rattle.roopl_lexer.specs.rpp_tree.declared.tree.Var.{Var}
+use Rattle.roopl_lexer.specs.rpp_tree.declared.tree.VarType.{VarType}
+use Rattle.roopl_lexer.specs.rpp_tree.declared.tree.VarType.TheVariants as kind
+use Rattle.roopl_lexer.specs.rpp_tree.declared.tree.BinOp.{BinOp}
+use Rattle.roopl_lexer.specs.rpp_tree.declared.tree.UpdateOp.{UpdateOp}
+use Rattle.roopl_lexer.specs.rpp_tree.Tree.{Expression, Number, Null, Binary, Lvalue, Whole}
+use Rattle.roopl_lexer.specs.rpp_tree.Tree.{Item, Creation, Object, Ints, Objects, Statement, Statements}
+use Rattle.roopl_lexer.specs.rpp_tree.Tree.{Update, Swap, If, From, Construct, Local, New, Delete, Copy, Uncopy}
+use Rattle.roopl_lexer.specs.rpp_tree.Tree.{Call, Skip, Procedure, ClassText, Source}
+use Rattle.roopl_lexer.specs.rpp_tree.Views.{statements_of}
 use Rattle.roopl_lexer.specs.declared.token.Token.{Token}
 use Rattle.roopl_lexer.specs.declared.token.TokenKind.{TokenKind}
 use Rattle.roopl_lexer.specs.declared.token.TokenKind.TheVariants.{Word, Name, Sign}
@@ -19,7 +19,7 @@ use Rattle.roopl_lexer.specs.declared.token.Keyword.{Keyword}
 use Rattle.roopl_lexer.specs.declared.token.Keyword.TheVariants as word
 use Rattle.roopl_lexer.specs.declared.token.Symbol.TheVariants as sign
 use Rattle.roopl_parser.specs.Operators.{Span, tok, ident, operator_at, update_operator}
-pub use Rattle.rpp_tree.specs.Tree.{lvalue_read}
+pub use Rattle.roopl_lexer.specs.rpp_tree.Tree.{lvalue_read}
 
 -- the type of arrays of this
 abbrev pub array_of : VarType → VarType

@@ -1,5 +1,5 @@
 pub use Rattle.roopl_lexer.specs.rpp_words
-pub use Rattle.rpp_tree.specs as rpp_tree
+pub use Rattle.roopl_lexer.specs.rpp_tree
 pub use Rattle.roopl_lexer.specs as roopl_lexer
 pub mod Operators
 pub mod Grammar

@@ -1,10 +1,10 @@
 -- How deep parentheses are nested in one another, in the tokens of a syntax tree. Indexes go with
 -- the parentheses around them.
 use Rattle.std.specs.Prelude.{ℕ, suc, max, List}
-use Rattle.rpp_tree.specs.declared.tree.Ident.{Ident}
-use Rattle.rpp_tree.specs.declared.tree.Var.{Var}
-use Rattle.rpp_tree.specs.Tree.{Expression, Lvalue, Creation, Statement, Statements, Procedure}
-use Rattle.rpp_tree.specs.Tree.{ClassText}
+use Rattle.roopl_lexer.specs.rpp_tree.declared.tree.Ident.{Ident}
+use Rattle.roopl_lexer.specs.rpp_tree.declared.tree.Var.{Var}
+use Rattle.roopl_lexer.specs.rpp_tree.Tree.{Expression, Lvalue, Creation, Statement, Statements, Procedure}
+use Rattle.roopl_lexer.specs.rpp_tree.Tree.{ClassText}
 use Rattle.roopl_lexer.specs.declared.token.Token.{Token}
 use Rattle.roopl_lexer.specs.declared.token.Keyword.{Keyword}
 use Rattle.roopl_parser.specs.Grammar.{IsExpr, number, null, read, parens, weaker, binary}

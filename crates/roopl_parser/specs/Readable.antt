@@ -1,6 +1,6 @@
 -- What a reader of tokens may be given.
 use Rattle.std.specs.Prelude.{◌≡◌, ℕ, ◌<◌, ◌≤◌, false, List, All, sum_by}
-use Rattle.rpp_tree.specs.declared.limits.TheConstants.{MOST_BYTES}
+use Rattle.roopl_lexer.specs.rpp_tree.declared.limits.TheConstants.{MOST_BYTES}
 use Rattle.roopl_lexer.specs.declared.token.Token.{Token}
 use Rattle.roopl_lexer.specs.Readable.{IsNameToken, name_length}
 use Rattle.roopl_lexer.specs.Tokens.{is_too_large}

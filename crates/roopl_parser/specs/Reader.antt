@@ -2,22 +2,22 @@
 use Rattle.std.specs.Prelude.{◌≡◌, ◌≢◌, ℕ, suc, pred, Bool, true, false, List, [], ◌∷◌, ◌++◌}
 use Rattle.std.specs.Prelude.{Option, Some, None, Result, Ok, Err, nat_lt, cond}
 use Rattle.std.proofs.Common.{zero}
-use Rattle.rpp_tree.specs.declared.tree.Ident.{Ident}
-use Rattle.rpp_tree.specs.declared.tree.Var.{Var}
-use Rattle.rpp_tree.specs.declared.tree.VarType.{VarType}
-use Rattle.rpp_tree.specs.declared.tree.VarType.TheVariants as kind
-use Rattle.rpp_tree.specs.declared.tree.BinOp.{BinOp}
-use Rattle.rpp_tree.specs.declared.tree.UpdateOp.{UpdateOp}
-use Rattle.rpp_tree.specs.declared.limits.LimitKind.{LimitKind}
-use Rattle.rpp_tree.specs.declared.limits.LimitKind.TheVariants as limit
-use Rattle.rpp_tree.specs.declared.limits.TheConstants.{MOST_NODES, MOST_INDEX_DEPTH, MOST_CLASSES}
-use Rattle.rpp_tree.specs.declared.limits.TheConstants.{MOST_PARAMETERS, MOST_LOCALS, MOST_NESTING}
-use Rattle.rpp_tree.specs.declared.limits.TheConstants.{MOST_PARENS}
-use Rattle.rpp_tree.specs.Tree.{Expression, Number, Null, Binary, Lvalue, Whole, Item, Creation}
-use Rattle.rpp_tree.specs.Tree.{Object, Ints, Objects, Statement, Statements, Update, Swap, If}
-use Rattle.rpp_tree.specs.Tree.{From, Construct, Local, New, Delete, Copy, Uncopy, Call, Skip, End}
-use Rattle.rpp_tree.specs.Tree.{Procedure, ClassText}
-use Rattle.rpp_tree.specs.Views.{statements_of}
+use Rattle.roopl_lexer.specs.rpp_tree.declared.tree.Ident.{Ident}
+use Rattle.roopl_lexer.specs.rpp_tree.declared.tree.Var.{Var}
+use Rattle.roopl_lexer.specs.rpp_tree.declared.tree.VarType.{VarType}
+use Rattle.roopl_lexer.specs.rpp_tree.declared.tree.VarType.TheVariants as kind
+use Rattle.roopl_lexer.specs.rpp_tree.declared.tree.BinOp.{BinOp}
+use Rattle.roopl_lexer.specs.rpp_tree.declared.tree.UpdateOp.{UpdateOp}
+use Rattle.roopl_lexer.specs.rpp_tree.declared.limits.LimitKind.{LimitKind}
+use Rattle.roopl_lexer.specs.rpp_tree.declared.limits.LimitKind.TheVariants as limit
+use Rattle.roopl_lexer.specs.rpp_tree.declared.limits.TheConstants.{MOST_NODES, MOST_INDEX_DEPTH, MOST_CLASSES}
+use Rattle.roopl_lexer.specs.rpp_tree.declared.limits.TheConstants.{MOST_PARAMETERS, MOST_LOCALS, MOST_NESTING}
+use Rattle.roopl_lexer.specs.rpp_tree.declared.limits.TheConstants.{MOST_PARENS}
+use Rattle.roopl_lexer.specs.rpp_tree.Tree.{Expression, Number, Null, Binary, Lvalue, Whole, Item, Creation}
+use Rattle.roopl_lexer.specs.rpp_tree.Tree.{Object, Ints, Objects, Statement, Statements, Update, Swap, If}
+use Rattle.roopl_lexer.specs.rpp_tree.Tree.{From, Construct, Local, New, Delete, Copy, Uncopy, Call, Skip, End}
+use Rattle.roopl_lexer.specs.rpp_tree.Tree.{Procedure, ClassText}
+use Rattle.roopl_lexer.specs.rpp_tree.Views.{statements_of}
 use Rattle.roopl_lexer.specs.declared.token.Token.{Token}
 use Rattle.roopl_lexer.specs.declared.token.TokenKind.{TokenKind}
 use Rattle.roopl_lexer.specs.declared.token.TokenKind.TheVariants as token

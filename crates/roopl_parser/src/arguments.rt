@@ -4,8 +4,8 @@ ghost use Rattle.roopl_parser.specs.Reader.{ReaderGives, scan, Args, MoreArgs, I
 
 use crate::error::ParseError;
 use crate::single::{name, next};
+use roopl_lexer::tree::Ident;
 use roopl_lexer::{Symbol, Token, TokenKind};
-use rpp_tree::Ident;
 use std::alloc::Global;
 
 /// Reads the names of a call, after its parenthesis.

@@ -1,8 +1,8 @@
 // Classes.
 ghost use Rattle.std.specs.Prelude.{◌≡◌, ◌≤◌, ◌<◌, ◌∷◌, ◌++◌, [], ℕ, true, length, List, IfOk, map};
-ghost use Rattle.rpp_tree.specs.declared.tree.Var.{Var};
-ghost use Rattle.rpp_tree.specs.Tree.{Procedure, ClassText};
-ghost use Rattle.rpp_tree.specs.Views.{procedure_of, class_text_of};
+ghost use Rattle.roopl_lexer.specs.rpp_tree.declared.tree.Var.{Var};
+ghost use Rattle.roopl_lexer.specs.rpp_tree.Tree.{Procedure, ClassText};
+ghost use Rattle.roopl_lexer.specs.rpp_tree.Views.{procedure_of, class_text_of};
 ghost use Rattle.roopl_lexer.specs.declared.token.Keyword.TheVariants as word;
 ghost use Rattle.roopl_parser.specs.Reader.{ReaderGives, scan, AWord, Parent, Fields, Procedures, Program, AParent, Vars, Methods, Classes, class_parts, method_parts};
 
@@ -11,8 +11,9 @@ use crate::kinds::variable;
 use crate::params::params;
 use crate::single::{name, place_of, sign, type_here, word, word_here};
 use crate::statement::block;
+use roopl_lexer::limits::{LimitKind, MOST_CLASSES};
+use roopl_lexer::tree::{Class, Ident, Method, Var};
 use roopl_lexer::{Keyword, Symbol, Token};
-use rpp_tree::{Class, Ident, LimitKind, MOST_CLASSES, Method, Var};
 use std::alloc::Global;
 
 /// Reads a parent, or nothing.

@@ -2,7 +2,7 @@
 ghost use Rattle.std.specs.Prelude.{◌≡◌};
 ghost use Rattle.roopl_parser.specs.declared.error.ParseError.TheVariants.{NoMemory};
 
-use rpp_tree::LimitKind;
+use roopl_lexer::limits::LimitKind;
 use std::alloc::{AllocError, AllocFailed};
 use thiserror::Error;
 

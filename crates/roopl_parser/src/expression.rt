@@ -1,16 +1,17 @@
 // Expressions.
 ghost use Rattle.std.specs.Prelude.{◌≡◌, ◌≤◌, ◌<◌, ◌∷◌, ℕ, suc, true, length, IfOk, MatchResult};
-ghost use Rattle.rpp_tree.specs.declared.limits.TheConstants.{MOST_INDEX_DEPTH, MOST_NODES};
-ghost use Rattle.rpp_tree.specs.declared.limits.LimitKind.TheVariants as limit;
+ghost use Rattle.roopl_lexer.specs.rpp_tree.declared.limits.TheConstants.{MOST_INDEX_DEPTH, MOST_NODES};
+ghost use Rattle.roopl_lexer.specs.rpp_tree.declared.limits.LimitKind.TheVariants as limit;
 ghost use Rattle.roopl_parser.specs.declared.error.ParseError.TheVariants.{Limit};
-ghost use Rattle.rpp_tree.specs.Views.{expression_of, lvalue_of};
+ghost use Rattle.roopl_lexer.specs.rpp_tree.Views.{expression_of, lvalue_of};
 ghost use Rattle.roopl_lexer.specs.declared.token.Symbol.TheVariants as sign;
 ghost use Rattle.roopl_parser.specs.Reader.{ReaderGives, scan, here, is_sign, stopped, passed, name_mark, parens_mark, Level, More, Index, Build, MakeRead, ASign, AnExpr, AnIdent, APlace};
 
 use crate::error::ParseError;
 use crate::single::{bracket_here, next, operator_at, sign};
-use roopl_lexer::{Keyword, Symbol, Token, TokenKind};
-use rpp_tree::{Expr, Ident, LimitKind, MOST_INDEX_DEPTH, MOST_NODES, MOST_PARENS, Place};
+use roopl_lexer::limits::{LimitKind, MOST_INDEX_DEPTH, MOST_NODES, MOST_PARENS};
+use roopl_lexer::tree::{Ident, Place};
+use roopl_lexer::{Expr, Keyword, Symbol, Token, TokenKind};
 use std::alloc::Global;
 
 /// One node more. The error is that the statement has no space for it.

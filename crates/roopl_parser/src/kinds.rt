@@ -1,7 +1,7 @@
 // Types, variables, places and what is made.
 ghost use Rattle.std.specs.Prelude.{◌≡◌, ◌≤◌, ◌<◌, ◌∷◌, ℕ, true, cond, length, IfOk};
-ghost use Rattle.rpp_tree.specs.declared.tree.VarType.{VarType};
-ghost use Rattle.rpp_tree.specs.Views.{expression_of, lvalue_of, creation_of};
+ghost use Rattle.roopl_lexer.specs.rpp_tree.declared.tree.VarType.{VarType};
+ghost use Rattle.roopl_lexer.specs.rpp_tree.Views.{expression_of, lvalue_of, creation_of};
 ghost use Rattle.roopl_lexer.specs.declared.token.Symbol.TheVariants as sign;
 ghost use Rattle.roopl_parser.specs.Grammar.{array_of};
 ghost use Rattle.roopl_parser.specs.Reader.{ReaderGives, scan, here, is_sign, Kind, Brackets, Spot, Made as MadePart, Level, ASign, AType, AVar, APlace, AnExpr, ACreation, var_parts};
@@ -9,8 +9,8 @@ ghost use Rattle.roopl_parser.specs.Reader.{ReaderGives, scan, here, is_sign, Ki
 use crate::error::ParseError;
 use crate::expression::{binary, indexed};
 use crate::single::{bracket_here, name, next, sign};
-use roopl_lexer::{Keyword, Symbol, Token, TokenKind};
-use rpp_tree::{Expr, Ident, Made, Place, Var, VarType};
+use roopl_lexer::tree::{Ident, Made, Place, Var, VarType};
+use roopl_lexer::{Expr, Keyword, Symbol, Token, TokenKind};
 use std::alloc::Global;
 
 /// Reads the brackets of an array's type, or nothing: whether they are here.

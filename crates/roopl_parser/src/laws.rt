@@ -1,7 +1,7 @@
 // What holds for all lists of tokens.
 ghost use Rattle.std.specs.Prelude.{◌≡◌, ◌≤◌, ◌↔◌, None, List, length};
-ghost use Rattle.rpp_tree.specs.Tree.{Source};
-ghost use Rattle.rpp_tree.specs.declared.limits.TheConstants.{MOST_PARENS, MOST_TOKENS};
+ghost use Rattle.roopl_lexer.specs.rpp_tree.Tree.{Source};
+ghost use Rattle.roopl_lexer.specs.rpp_tree.declared.limits.TheConstants.{MOST_PARENS, MOST_TOKENS};
 ghost use Rattle.roopl_lexer.specs.declared.token.Token.{Token};
 ghost use Rattle.roopl_parser.specs.Grammar.{Derives};
 ghost use Rattle.roopl_parser.specs.Parens.{classes_parens};

@@ -18,3 +18,10 @@ mod statement;
 pub use error::ParseError;
 pub use laws::{no_limit_passed, one_tree};
 pub use parser::parse;
+pub use roopl_lexer::{LexError, NoMemory, Token, lex, tree};
+
+/// An alias hands on this enum, which contains itself: Rattle does not find one that is handed on by `pub use`.
+pub type Expr = roopl_lexer::Expr;
+
+/// An alias hands on this enum, which contains itself: Rattle does not find one that is handed on by `pub use`.
+pub type Stmt = roopl_lexer::Stmt;

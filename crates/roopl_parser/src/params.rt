@@ -1,13 +1,14 @@
 // The parameters of a method.
 ghost use Rattle.std.specs.Prelude.{◌≡◌, ◌<◌, ◌∷◌, ◌++◌, [], ℕ, List, true, length, IfOk};
-ghost use Rattle.rpp_tree.specs.declared.tree.Var.{Var};
+ghost use Rattle.roopl_lexer.specs.rpp_tree.declared.tree.Var.{Var};
 ghost use Rattle.roopl_parser.specs.Reader.{ReaderGives, scan, Params, Param, MoreParams, Vars};
 
 use crate::error::ParseError;
 use crate::kinds::variable;
 use crate::single::{next, paren_here, place_of, sign, type_here};
+use roopl_lexer::limits::{LimitKind, MOST_PARAMETERS};
+use roopl_lexer::tree::Var;
 use roopl_lexer::{Symbol, Token, TokenKind};
-use rpp_tree::{LimitKind, MOST_PARAMETERS, Var};
 use std::alloc::Global;
 
 /// Reads a parameter after this many.

@@ -1,10 +1,10 @@
 // Programs.
 ghost use Rattle.std.specs.Prelude.{◌≡◌, ◌≢◌, ℕ, IfOk, Err, Ok, Option, Some, None, MatchResult};
-ghost use Rattle.rpp_tree.specs.declared.limits.LimitKind.{LimitKind};
-ghost use Rattle.rpp_tree.specs.declared.limits.LimitKind.TheVariants.{Tokens};
-ghost use Rattle.rpp_tree.specs.Limits.{IsWithinLimits};
-ghost use Rattle.rpp_tree.specs.Tree.{Source};
-ghost use Rattle.rpp_tree.specs.Views.{source_of};
+ghost use Rattle.roopl_lexer.specs.rpp_tree.declared.limits.LimitKind.{LimitKind};
+ghost use Rattle.roopl_lexer.specs.rpp_tree.declared.limits.LimitKind.TheVariants.{Tokens};
+ghost use Rattle.roopl_lexer.specs.rpp_tree.Limits.{IsWithinLimits};
+ghost use Rattle.roopl_lexer.specs.rpp_tree.Tree.{Source};
+ghost use Rattle.roopl_lexer.specs.rpp_tree.Views.{source_of};
 ghost use Rattle.roopl_parser.specs.Grammar.{Derives};
 ghost use Rattle.roopl_parser.specs.Readable.{AreSmallTokens, IsReadable};
 ghost use Rattle.roopl_parser.specs.Reader.{Classes};
@@ -15,7 +15,8 @@ use crate::class::classes;
 use crate::error::ParseError;
 use crate::single::next;
 use roopl_lexer::Token;
-use rpp_tree::{LimitKind, MOST_TOKENS, Program};
+use roopl_lexer::limits::{LimitKind, MOST_TOKENS};
+use roopl_lexer::tree::Program;
 use std::alloc::Global;
 
 /// The syntax tree of the tokens, read by the machine.

@@ -1,6 +1,6 @@
 // Statements without statements inside them, after their first token.
 ghost use Rattle.std.specs.Prelude.{◌≡◌, ◌≤◌, ◌<◌, ◌∷◌, ℕ, true, length, IfOk};
-ghost use Rattle.rpp_tree.specs.Views.{statement_of, lvalue_of, creation_of};
+ghost use Rattle.roopl_lexer.specs.rpp_tree.Views.{statement_of, lvalue_of, creation_of};
 ghost use Rattle.roopl_lexer.specs.declared.token.Symbol.TheVariants as sign;
 ghost use Rattle.roopl_parser.specs.Reader.{ReaderGives, scan, Index, Assign, Count, Made as MadePart, Spot, Kind, Receiver, Args, AName, ASign, Build, AnIdent, APlace, ACreation, AType, AStatement, MakeNew, MakeDelete, MakeCopy, MakeUncopy, MakeCall, send_parts};
 
@@ -9,8 +9,9 @@ use crate::error::ParseError;
 use crate::expression::{binary, indexed};
 use crate::kinds::{kind, made, place};
 use crate::single::{name, next, sign, update_operator};
-use roopl_lexer::{Symbol, Token, TokenKind};
-use rpp_tree::{Ident, LimitKind, MOST_LOCALS, Made, Place, Stmt, VarType};
+use roopl_lexer::limits::{LimitKind, MOST_LOCALS};
+use roopl_lexer::tree::{Ident, Made, Place, VarType};
+use roopl_lexer::{Stmt, Symbol, Token, TokenKind};
 use std::alloc::Global;
 
 /// Reads an update or a swap, after its first name.

@@ -7,8 +7,8 @@ ghost use Rattle.roopl_parser.specs.Reader.{ReaderGives, scan, ASign, AWord, ANa
 ghost use Rattle.roopl_parser.specs.Viable.{offset_at};
 
 use crate::error::ParseError;
+use roopl_lexer::tree::{BinOp, Ident, UpdateOp};
 use roopl_lexer::{Keyword, Symbol, Token, TokenKind};
-use rpp_tree::{BinOp, Ident, UpdateOp};
 use std::alloc::Global;
 
 /// The first token and the others.

@@ -1,7 +1,7 @@
 // Statements and blocks.
 ghost use Rattle.std.specs.Prelude.{◌≡◌, ◌≢◌, ◌≤◌, ◌<◌, ◌∷◌, ℕ, suc, List, true, length, IfOk, MatchResult, Err};
-ghost use Rattle.rpp_tree.specs.declared.limits.TheConstants.{MOST_NESTING, MOST_LOCALS};
-ghost use Rattle.rpp_tree.specs.Views.{statement_of, block_of, expression_of};
+ghost use Rattle.roopl_lexer.specs.rpp_tree.declared.limits.TheConstants.{MOST_NESTING, MOST_LOCALS};
+ghost use Rattle.roopl_lexer.specs.rpp_tree.Views.{statement_of, block_of, expression_of};
 ghost use Rattle.roopl_lexer.specs.declared.token.Keyword.TheVariants as word;
 ghost use Rattle.roopl_lexer.specs.declared.token.Symbol.TheVariants as sign;
 ghost use Rattle.roopl_parser.specs.Reader.{ReaderGives, scan, is_word, starts, Part, ParsedValue, Single, Block as BlockPart, Branches, Level, Count, Build, Scope, Kind, AName, AWord, ASign, AStatement, ABlock, AVar, AnExpr, MakeIf, MakeFrom, MakeConstruct, MakeLocal, var_parts};
@@ -11,8 +11,9 @@ use crate::expression::binary;
 use crate::kinds::variable;
 use crate::simple::{assignment, call, copy, delete, make, uncopy};
 use crate::single::{name, next, sign, starts, starts_here, word, word_here};
-use roopl_lexer::{Keyword, Symbol, Token, TokenKind};
-use rpp_tree::{Block, Expr, Ident, LimitKind, MOST_LOCALS, MOST_NESTING, Stmt, Var};
+use roopl_lexer::limits::{LimitKind, MOST_LOCALS, MOST_NESTING};
+use roopl_lexer::tree::{Block, Ident, Var};
+use roopl_lexer::{Expr, Keyword, Stmt, Symbol, Token, TokenKind};
 use std::alloc::Global;
 
 /// The first token of a statement and the others, if it passes no limit.

@@ -8,8 +8,8 @@ use Rattle.std.specs.Char.{is_ascii_alphabetic, is_ascii_digit}
 use Rattle.std.proofs.lemmas.Bool.Decides.{nat_tests}
 use Rattle.std.proofs.lemmas.Fmt.{decimal_by_steps}
 use Rattle.std.proofs.lemmas.List.{take_at, drop_at, get_or_at}
-use Rattle.rpp_tree.specs.Tree.{Source}
-use Rattle.rpp_tree.specs.Names.{IsName}
+use Rattle.roopl_parser.specs.rpp_tree.Tree.{Source}
+use Rattle.roopl_parser.specs.rpp_tree.Names.{IsName}
 use Rattle.roopl_parser.specs.roopl_lexer.declared.token.Keyword.{Keyword}
 use Rattle.roopl_parser.specs.roopl_lexer.declared.token.Keyword.TheVariants as word
 use Rattle.roopl_parser.specs.roopl_lexer.declared.token.Symbol.{Symbol}
@@ -17,7 +17,7 @@ use Rattle.roopl_parser.specs.roopl_lexer.declared.token.Symbol.TheVariants as s
 use Rattle.roopl_parser.specs.roopl_lexer.declared.token.Token.{Token}
 use Rattle.roopl_parser.specs.roopl_lexer.declared.token.TokenKind.{TokenKind}
 use Rattle.roopl_parser.specs.roopl_lexer.declared.token.TokenKind.TheVariants.{Word, Name, Number, Sign}
-use Rattle.rpp_tree.specs.declared.limits.TheConstants.{MOST_NUMBER}
+use Rattle.roopl_parser.specs.rpp_tree.declared.limits.TheConstants.{MOST_NUMBER}
 use Rattle.roopl_parser.specs.roopl_lexer.Signs.{keyword_bytes, sign_bytes}
 use Rattle.roopl_parser.specs.roopl_lexer.Tokens.{is_white, begins_comment, Spells, IsLongest, is_too_large, Cut, finish, white}
 use Rattle.roopl_parser.specs.roopl_lexer.Tokens.{token, IsCutting}

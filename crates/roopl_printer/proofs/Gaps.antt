@@ -3,9 +3,9 @@ use Rattle.std.proofs.Common.{◌≡◌, ℕ, List, [], ◌∷◌, ◌++◌, ref
 use Rattle.std.specs.List.{flat_map}
 use Rattle.std.proofs.lemmas.List.{append-nil}
 use Rattle.std.proofs.lemmas.List.Concat.{flat_map-append}
-use Rattle.rpp_tree.specs.Tree.{Statement, ClassText}
-use Rattle.rpp_tree.specs.declared.tree.Stmt.{Stmt}
-use Rattle.rpp_tree.specs.Views.{statement_of}
+use Rattle.roopl_parser.specs.rpp_tree.Tree.{Statement, ClassText}
+use Rattle.roopl_parser.specs.rpp_tree.declared.tree.Stmt.{Stmt}
+use Rattle.roopl_parser.specs.rpp_tree.Views.{statement_of}
 use Rattle.roopl_printer.specs.Printed.{PrintedToken, with_gap, with_gaps, printed_text, a_name}
 use Rattle.roopl_printer.specs.Spelled.{spelled_statement, spelled_parent, spelled_var, spelled_method, spelled_class}
 

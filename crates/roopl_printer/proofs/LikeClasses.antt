@@ -2,12 +2,12 @@
 use Rattle.std.proofs.Common.{◌≡◌, suc, ◌≤◌, List, [], ◌∷◌, ◌++◌, map, length, All, Option, Some, None, refl, ap, arith}
 use Rattle.std.specs.List.{flat_map}
 use Rattle.std.proofs.lemmas.List.Elements.{All-nil, All-cons, All-head, All-tail}
-use Rattle.rpp_tree.specs.declared.tree.Ident.{Ident}
-use Rattle.rpp_tree.specs.declared.tree.Var.{Var}
-use Rattle.rpp_tree.specs.declared.limits.TheConstants.{MOST_NODES}
-use Rattle.rpp_tree.specs.Tree.{Procedure, ClassText}
-use Rattle.rpp_tree.specs.Bare.{bare_var, bare_procedure, bare_parent, bare_class}
-use Rattle.rpp_tree.specs.Limits.{IsSmallMethod}
+use Rattle.roopl_parser.specs.rpp_tree.declared.tree.Ident.{Ident}
+use Rattle.roopl_parser.specs.rpp_tree.declared.tree.Var.{Var}
+use Rattle.roopl_parser.specs.rpp_tree.declared.limits.TheConstants.{MOST_NODES}
+use Rattle.roopl_parser.specs.rpp_tree.Tree.{Procedure, ClassText}
+use Rattle.roopl_parser.specs.rpp_tree.Bare.{bare_var, bare_procedure, bare_parent, bare_class}
+use Rattle.roopl_parser.specs.rpp_tree.Limits.{IsSmallMethod}
 use Rattle.roopl_parser.specs.roopl_lexer.declared.token.Token.{Token}
 use Rattle.roopl_parser.specs.roopl_lexer.declared.token.Symbol.TheVariants as sign
 use Rattle.roopl_parser.specs.Operators.{ident}

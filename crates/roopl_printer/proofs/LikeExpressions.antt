@@ -1,12 +1,12 @@
 -- Tokens that look like a printed expression are an expression like it.
 use Rattle.std.proofs.Common.{◌≡◌, ℕ, zero, suc, ◌+◌, ◌<◌, ◌≤◌, List, [], ◌∷◌, Some, refl, ap, subst, arith}
 use Rattle.std.proofs.lemmas.List.{append-nil}
-use Rattle.rpp_tree.specs.declared.tree.Ident.{Ident}
-use Rattle.rpp_tree.specs.declared.tree.BinOp.{BinOp}
-use Rattle.rpp_tree.specs.declared.tree.BinOp.TheVariants as op
-use Rattle.rpp_tree.specs.Tree.{Expression, Number, Null, Variable, Element, Binary, Lvalue, Whole, Item, nodes}
-use Rattle.rpp_tree.specs.Tree.{index_nodes}
-use Rattle.rpp_tree.specs.Bare.{bare_name, bare_expression, bare_lvalue}
+use Rattle.roopl_parser.specs.rpp_tree.declared.tree.Ident.{Ident}
+use Rattle.roopl_parser.specs.rpp_tree.declared.tree.BinOp.{BinOp}
+use Rattle.roopl_parser.specs.rpp_tree.declared.tree.BinOp.TheVariants as op
+use Rattle.roopl_parser.specs.rpp_tree.Tree.{Expression, Number, Null, Variable, Element, Binary, Lvalue, Whole, Item, nodes}
+use Rattle.roopl_parser.specs.rpp_tree.Tree.{index_nodes}
+use Rattle.roopl_parser.specs.rpp_tree.Bare.{bare_name, bare_expression, bare_lvalue}
 use Rattle.roopl_parser.specs.roopl_lexer.declared.token.Token.{Token}
 use Rattle.roopl_parser.specs.roopl_lexer.declared.token.TokenKind.TheVariants as token
 use Rattle.roopl_parser.specs.roopl_lexer.declared.token.Symbol.TheVariants as sign
@@ -17,7 +17,7 @@ use Rattle.roopl_parser.specs.Parens.{parens_of, index_parens, place_parens}
 use Rattle.roopl_printer.specs.Printed.{a_sign}
 use Rattle.roopl_printer.specs.Spelled.{operator, operand_tokens, opening, closing, in_brackets, spelled_expression}
 use Rattle.roopl_printer.specs.Spelled.{spelled_index, spelled_place}
-use Rattle.rpp_tree.specs.Places.{place_name}
+use Rattle.roopl_parser.specs.rpp_tree.Places.{place_name}
 use Rattle.roopl_printer.proofs.Looks.{Looks, none, next, parted}
 
 -- an expression of a level like this one, with parentheses fewer than a number deep

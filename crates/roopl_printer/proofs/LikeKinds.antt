@@ -1,12 +1,12 @@
 -- Tokens that look like printed types, variables, creations and names are those.
 use Rattle.std.proofs.Common.{◌≡◌, ◌≤◌, List, [], ◌∷◌, ◌++◌, map, refl, ap, arith}
 use Rattle.std.specs.List.{flat_map}
-use Rattle.rpp_tree.specs.declared.tree.Ident.{Ident}
-use Rattle.rpp_tree.specs.declared.tree.Var.{Var}
-use Rattle.rpp_tree.specs.declared.tree.VarType.{VarType}
-use Rattle.rpp_tree.specs.declared.tree.VarType.TheVariants as type
-use Rattle.rpp_tree.specs.Tree.{Expression, Creation, Object, Ints, Objects, nodes, creation_nodes}
-use Rattle.rpp_tree.specs.Bare.{bare_name, bare_type, bare_var, bare_creation}
+use Rattle.roopl_parser.specs.rpp_tree.declared.tree.Ident.{Ident}
+use Rattle.roopl_parser.specs.rpp_tree.declared.tree.Var.{Var}
+use Rattle.roopl_parser.specs.rpp_tree.declared.tree.VarType.{VarType}
+use Rattle.roopl_parser.specs.rpp_tree.declared.tree.VarType.TheVariants as type
+use Rattle.roopl_parser.specs.rpp_tree.Tree.{Expression, Creation, Object, Ints, Objects, nodes, creation_nodes}
+use Rattle.roopl_parser.specs.rpp_tree.Bare.{bare_name, bare_type, bare_var, bare_creation}
 use Rattle.roopl_parser.specs.roopl_lexer.declared.token.Token.{Token}
 use Rattle.roopl_parser.specs.roopl_lexer.declared.token.TokenKind.TheVariants as token
 use Rattle.roopl_parser.specs.roopl_lexer.declared.token.Keyword.TheVariants as word

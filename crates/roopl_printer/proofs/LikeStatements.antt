@@ -1,16 +1,16 @@
 -- Tokens that look like printed statements are statements like them.
 use Rattle.std.proofs.Common.{◌≡◌, ℕ, ◌<◌, ◌≤◌, Bool, true, false, List, [], ◌∷◌, ◌++◌, Option, Some, None, refl, ap}
 use Rattle.std.proofs.Common.{arith}
-use Rattle.rpp_tree.specs.declared.tree.Ident.{Ident}
-use Rattle.rpp_tree.specs.declared.tree.Var.{Var}
-use Rattle.rpp_tree.specs.declared.tree.UpdateOp.{UpdateOp}
-use Rattle.rpp_tree.specs.declared.tree.UpdateOp.TheVariants as update
-use Rattle.rpp_tree.specs.declared.limits.TheConstants.{MOST_NODES}
-use Rattle.rpp_tree.specs.Tree.{Expression, Lvalue, Statement, Statements, Update, Swap, If, From, Construct, Local}
-use Rattle.rpp_tree.specs.Tree.{New, Delete, Copy, Uncopy, Call, Skip, End, Then, nodes, index_nodes}
-use Rattle.rpp_tree.specs.Bare.{bare_name, bare_var, bare_expression, bare_statement, bare}
-use Rattle.rpp_tree.specs.Limits.{IsSmallStatement, AreSmall, AreInnerSmall}
-use Rattle.rpp_tree.specs.Views.{statements_of}
+use Rattle.roopl_parser.specs.rpp_tree.declared.tree.Ident.{Ident}
+use Rattle.roopl_parser.specs.rpp_tree.declared.tree.Var.{Var}
+use Rattle.roopl_parser.specs.rpp_tree.declared.tree.UpdateOp.{UpdateOp}
+use Rattle.roopl_parser.specs.rpp_tree.declared.tree.UpdateOp.TheVariants as update
+use Rattle.roopl_parser.specs.rpp_tree.declared.limits.TheConstants.{MOST_NODES}
+use Rattle.roopl_parser.specs.rpp_tree.Tree.{Expression, Lvalue, Statement, Statements, Update, Swap, If, From, Construct, Local}
+use Rattle.roopl_parser.specs.rpp_tree.Tree.{New, Delete, Copy, Uncopy, Call, Skip, End, Then, nodes, index_nodes}
+use Rattle.roopl_parser.specs.rpp_tree.Bare.{bare_name, bare_var, bare_expression, bare_statement, bare}
+use Rattle.roopl_parser.specs.rpp_tree.Limits.{IsSmallStatement, AreSmall, AreInnerSmall}
+use Rattle.roopl_parser.specs.rpp_tree.Views.{statements_of}
 use Rattle.roopl_parser.specs.roopl_lexer.declared.token.Token.{Token}
 use Rattle.roopl_parser.specs.roopl_lexer.declared.token.TokenKind.TheVariants as token
 use Rattle.roopl_parser.specs.roopl_lexer.declared.token.Keyword.{Keyword}
@@ -26,7 +26,7 @@ use Rattle.roopl_printer.specs.Printed.{a_name, a_sign, a_word}
 use Rattle.roopl_printer.specs.Spelled.{update_sign, call_word, in_parentheses, spelled_expression, spelled_index}
 use Rattle.roopl_printer.specs.Spelled.{spelled_place, spelled_type, spelled_var, spelled_creation, spelled_names}
 use Rattle.roopl_printer.specs.Spelled.{spelled_binding, spelled_statement, spelled_block}
-use Rattle.rpp_tree.specs.Places.{place_name}
+use Rattle.roopl_parser.specs.rpp_tree.Places.{place_name}
 use Rattle.roopl_printer.proofs.Looks.{Looks, none, next, parted}
 use Rattle.roopl_printer.proofs.LikeExpressions.{LikeExpr, expression_like, LikeIndexed, indexed_like, place_like}
 use Rattle.roopl_printer.proofs.LikeKinds.{type_like, LikeVar, var_like, made_like, names_like}

@@ -2,15 +2,15 @@
 -- tokens.
 use Rattle.std.proofs.Common.{ℕ, List, [], ◌∷◌, ◌++◌, Option, Some, None}
 use Rattle.std.specs.List.{flat_map, AllByRecursion}
-use Rattle.rpp_tree.specs.declared.tree.Ident.{Ident}
-use Rattle.rpp_tree.specs.declared.tree.Var.{Var}
-use Rattle.rpp_tree.specs.declared.tree.VarType.{VarType}
-use Rattle.rpp_tree.specs.declared.tree.VarType.TheVariants as type
-use Rattle.rpp_tree.specs.Tree.{Expression, Number, Null, Variable, Element, Binary, Lvalue, Whole, Item, Creation}
-use Rattle.rpp_tree.specs.Tree.{Object, Ints, Objects, Statement, Statements, Update, Swap, If, From, Construct, Local}
-use Rattle.rpp_tree.specs.Tree.{New, Delete, Copy, Uncopy, Call, Skip, End, Then, Procedure, ClassText, Source}
-use Rattle.rpp_tree.specs.Parts.{expression_names, lvalue_names, receiver_names, creation_names, type_names, var_names}
-use Rattle.rpp_tree.specs.Parts.{statement_names, block_names, procedure_names, parent_names, class_names, source_names}
+use Rattle.roopl_parser.specs.rpp_tree.declared.tree.Ident.{Ident}
+use Rattle.roopl_parser.specs.rpp_tree.declared.tree.Var.{Var}
+use Rattle.roopl_parser.specs.rpp_tree.declared.tree.VarType.{VarType}
+use Rattle.roopl_parser.specs.rpp_tree.declared.tree.VarType.TheVariants as type
+use Rattle.roopl_parser.specs.rpp_tree.Tree.{Expression, Number, Null, Variable, Element, Binary, Lvalue, Whole, Item, Creation}
+use Rattle.roopl_parser.specs.rpp_tree.Tree.{Object, Ints, Objects, Statement, Statements, Update, Swap, If, From, Construct, Local}
+use Rattle.roopl_parser.specs.rpp_tree.Tree.{New, Delete, Copy, Uncopy, Call, Skip, End, Then, Procedure, ClassText, Source}
+use Rattle.roopl_parser.specs.rpp_tree.Parts.{expression_names, lvalue_names, receiver_names, creation_names, type_names, var_names}
+use Rattle.roopl_parser.specs.rpp_tree.Parts.{statement_names, block_names, procedure_names, parent_names, class_names, source_names}
 use Rattle.roopl_parser.specs.roopl_lexer.declared.token.Keyword.{Keyword}
 use Rattle.roopl_parser.specs.roopl_lexer.declared.token.Keyword.TheVariants as word
 use Rattle.roopl_parser.specs.roopl_lexer.declared.token.Symbol.{Symbol}

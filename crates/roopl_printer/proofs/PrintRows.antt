@@ -1,13 +1,13 @@
 -- The texts of programs, computed.
 use Rattle.std.proofs.Common.{◌≡◌, ℕ, false, List, [], ◌∷◌, Some, None, refl, codes}
-use Rattle.rpp_tree.specs.declared.tree.Ident.{Ident}
-use Rattle.rpp_tree.specs.declared.tree.Var.{Var}
-use Rattle.rpp_tree.specs.declared.tree.VarType.{VarType}
-use Rattle.rpp_tree.specs.declared.tree.VarType.TheVariants as type
-use Rattle.rpp_tree.specs.declared.tree.BinOp.TheVariants as op
-use Rattle.rpp_tree.specs.declared.tree.UpdateOp.TheVariants as update
-use Rattle.rpp_tree.specs.Tree.{Expression, Number, Null, Variable, Element, Binary, Whole, Item, Ints, Object}
-use Rattle.rpp_tree.specs.Tree.{Statements, Update, If, From, Local, New, Call, Skip, End, Then, Source}
+use Rattle.roopl_parser.specs.rpp_tree.declared.tree.Ident.{Ident}
+use Rattle.roopl_parser.specs.rpp_tree.declared.tree.Var.{Var}
+use Rattle.roopl_parser.specs.rpp_tree.declared.tree.VarType.{VarType}
+use Rattle.roopl_parser.specs.rpp_tree.declared.tree.VarType.TheVariants as type
+use Rattle.roopl_parser.specs.rpp_tree.declared.tree.BinOp.TheVariants as op
+use Rattle.roopl_parser.specs.rpp_tree.declared.tree.UpdateOp.TheVariants as update
+use Rattle.roopl_parser.specs.rpp_tree.Tree.{Expression, Number, Null, Variable, Element, Binary, Whole, Item, Ints, Object}
+use Rattle.roopl_parser.specs.rpp_tree.Tree.{Statements, Update, If, From, Local, New, Call, Skip, End, Then, Source}
 use Rattle.std.specs.Fmt.{digits}
 use Rattle.roopl_printer.specs.Spelled.{printed}
 

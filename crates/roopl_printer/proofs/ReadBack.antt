@@ -2,11 +2,11 @@
 use Rattle.std.proofs.Common.{◌≤◌, List, [], ◌∷◌, length, ap, arith}
 use Rattle.std.specs.List.{AllByRecursion}
 use Rattle.std.proofs.lemmas.List.Elements.{recursion_from_All}
-use Rattle.rpp_tree.specs.declared.limits.TheConstants.{MOST_TOKENS}
-use Rattle.rpp_tree.specs.Names.{IsName}
-use Rattle.rpp_tree.specs.Parts.{source_names}
-use Rattle.rpp_tree.specs.Tree.{ClassText, Source}
-use Rattle.rpp_tree.specs.Limits.{IsWithinLimits}
+use Rattle.roopl_parser.specs.rpp_tree.declared.limits.TheConstants.{MOST_TOKENS}
+use Rattle.roopl_parser.specs.rpp_tree.Names.{IsName}
+use Rattle.roopl_parser.specs.rpp_tree.Parts.{source_names}
+use Rattle.roopl_parser.specs.rpp_tree.Tree.{ClassText, Source}
+use Rattle.roopl_parser.specs.rpp_tree.Limits.{IsWithinLimits}
 use Rattle.roopl_parser.specs.roopl_lexer.declared.token.TokenKind.{TokenKind}
 use Rattle.roopl_parser.specs.roopl_lexer.declared.token.TokenKind.TheVariants.{Word, Name, Number, Sign}
 use Rattle.roopl_parser.specs.Viable.{IsSmall}

@@ -3,18 +3,18 @@ use Rattle.std.proofs.lemmas.List.{length-map}
 use Rattle.std.proofs.Common.{◌≡◌, ◌↔◌, ℕ, ◌+◌, ◌≤◌, max, List, map, length, Option, Some, None, refl, sym, ◌∙◌, ap}
 use Rattle.std.proofs.Common.{subst}
 use Rattle.std.proofs.Common.{arith}
-use Rattle.rpp_tree.specs.declared.tree.Var.{Var}
-use Rattle.rpp_tree.specs.declared.limits.TheConstants.{MOST_NODES, MOST_INDEX_DEPTH}
-use Rattle.rpp_tree.specs.Tree.{Expression, Number, Null, Variable, Element, Binary, Lvalue, Whole, Item, Creation}
-use Rattle.rpp_tree.specs.Tree.{Object, Ints, Objects, Statement, Statements, Procedure, TreePart, Operand, Target, Typed}
-use Rattle.rpp_tree.specs.Tree.{Creates, Invokes, own_parts, each_part, nodes, index_nodes, creation_nodes}
-use Rattle.rpp_tree.specs.Tree.{receiver_nodes, part_nodes, statement_nodes, nesting, depth}
-use Rattle.rpp_tree.specs.Bare.{bare_var, bare_expression, bare_lvalue, bare_receiver, bare_creation, bare_part}
-use Rattle.rpp_tree.specs.Bare.{bare_statement, bare, bare_procedure}
-use Rattle.rpp_tree.specs.Limits.{index_depth, lvalue_index_depth, creation_index_depth, receiver_index_depth}
-use Rattle.rpp_tree.specs.Limits.{part_index_depth, statement_index_depth, receiver_locals, part_locals, held_locals}
-use Rattle.rpp_tree.specs.Limits.{locals, IsSmallStatement, small, AreSmall, IsSmallMethod}
-use Rattle.rpp_tree.proofs.Walks.{IsBlind, block_bare, own_parts_bare, each_bare}
+use Rattle.roopl_parser.specs.rpp_tree.declared.tree.Var.{Var}
+use Rattle.roopl_parser.specs.rpp_tree.declared.limits.TheConstants.{MOST_NODES, MOST_INDEX_DEPTH}
+use Rattle.roopl_parser.specs.rpp_tree.Tree.{Expression, Number, Null, Variable, Element, Binary, Lvalue, Whole, Item, Creation}
+use Rattle.roopl_parser.specs.rpp_tree.Tree.{Object, Ints, Objects, Statement, Statements, Procedure, TreePart, Operand, Target, Typed}
+use Rattle.roopl_parser.specs.rpp_tree.Tree.{Creates, Invokes, own_parts, each_part, nodes, index_nodes, creation_nodes}
+use Rattle.roopl_parser.specs.rpp_tree.Tree.{receiver_nodes, part_nodes, statement_nodes, nesting, depth}
+use Rattle.roopl_parser.specs.rpp_tree.Bare.{bare_var, bare_expression, bare_lvalue, bare_receiver, bare_creation, bare_part}
+use Rattle.roopl_parser.specs.rpp_tree.Bare.{bare_statement, bare, bare_procedure}
+use Rattle.roopl_parser.specs.rpp_tree.Limits.{index_depth, lvalue_index_depth, creation_index_depth, receiver_index_depth}
+use Rattle.roopl_parser.specs.rpp_tree.Limits.{part_index_depth, statement_index_depth, receiver_locals, part_locals, held_locals}
+use Rattle.roopl_parser.specs.rpp_tree.Limits.{locals, IsSmallStatement, small, AreSmall, IsSmallMethod}
+use Rattle.roopl_parser.proofs.rpp_tree_laws.Walks.{IsBlind, block_bare, own_parts_bare, each_bare}
 
 same_nodes : (e : Expression) → nodes (bare_expression e) ≡ nodes e
 same_nodes (Number at n) = refl

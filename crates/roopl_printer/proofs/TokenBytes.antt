@@ -10,8 +10,8 @@ use Rattle.std.proofs.lemmas.Str.{IsAscii-append, IsUtf8-from_ascii}
 use Rattle.std.proofs.lemmas.Str.Ascii.{IsAscii-nil, IsAscii-cons, IsAscii-from_all}
 use Rattle.std.proofs.lemmas.List.Elements.{All-cons, All-weaker, recursion_from_All}
 use Rattle.std.proofs.lemmas.List.Sums.{AllPass-from_list_all}
-use Rattle.rpp_tree.specs.Tree.{Source}
-use Rattle.rpp_tree.specs.Parts.{source_names}
+use Rattle.roopl_parser.specs.rpp_tree.Tree.{Source}
+use Rattle.roopl_parser.specs.rpp_tree.Parts.{source_names}
 use Rattle.roopl_parser.specs.roopl_lexer.declared.token.Keyword.{Keyword}
 use Rattle.roopl_parser.specs.roopl_lexer.declared.token.Keyword.TheVariants as word
 use Rattle.roopl_parser.specs.roopl_lexer.declared.token.Symbol.{Symbol}

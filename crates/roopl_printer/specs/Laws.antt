@@ -1,9 +1,9 @@
 -- What printed texts are.
 use Rattle.std.specs.Prelude.{◌≡◌, ◌≤◌, None, List, length, map, All}
-use Rattle.rpp_tree.specs.declared.limits.TheConstants.{MOST_TOKENS}
-use Rattle.rpp_tree.specs.Tree.{Source}
-use Rattle.rpp_tree.specs.Bare.{bare_source}
-use Rattle.rpp_tree.specs.Limits.{IsWithinLimits}
+use Rattle.roopl_parser.specs.rpp_tree.declared.limits.TheConstants.{MOST_TOKENS}
+use Rattle.roopl_parser.specs.rpp_tree.Tree.{Source}
+use Rattle.roopl_parser.specs.rpp_tree.Bare.{bare_source}
+use Rattle.roopl_parser.specs.rpp_tree.Limits.{IsWithinLimits}
 use Rattle.roopl_parser.specs.roopl_lexer.declared.token.Token.{Token}
 use Rattle.roopl_parser.specs.roopl_lexer.Tokens.{IsCutting}
 use Rattle.roopl_parser.specs.Grammar.{Derives}

@@ -1,10 +1,10 @@
 -- Tokens that a source may hold, and syntax trees of the grammar.
 use Rattle.std.specs.Prelude.{◌≤◌, All}
-use Rattle.rpp_tree.specs.Names.{IsName}
-use Rattle.rpp_tree.specs.Tree.{Statement, Statements, Source, Walk, walk, walk_block}
+use Rattle.roopl_parser.specs.rpp_tree.Names.{IsName}
+use Rattle.roopl_parser.specs.rpp_tree.Tree.{Statement, Statements, Source, Walk, walk, walk_block}
 use Rattle.roopl_parser.specs.roopl_lexer.declared.token.TokenKind.{TokenKind}
 use Rattle.roopl_parser.specs.roopl_lexer.declared.token.TokenKind.TheVariants.{Word, Name, Number, Sign}
-use Rattle.rpp_tree.specs.declared.limits.TheConstants.{MOST_NUMBER}
+use Rattle.roopl_parser.specs.rpp_tree.declared.limits.TheConstants.{MOST_NUMBER}
 use Rattle.roopl_printer.specs.Spelled.{spelled}
 
 -- a name is one by the rule and no keyword, and a number is not too large

@@ -1,7 +1,7 @@
 -- Printed tokens, and the text that they make.
 use Rattle.std.specs.Prelude.{ℕ, Bool, true, false, List, [], ◌∷◌, ◌++◌, decimal}
 use Rattle.std.specs.List.{flat_map}
-use Rattle.rpp_tree.specs.declared.tree.Ident.{Ident}
+use Rattle.roopl_parser.specs.rpp_tree.declared.tree.Ident.{Ident}
 use Rattle.roopl_parser.specs.roopl_lexer.declared.token.Keyword.{Keyword}
 use Rattle.roopl_parser.specs.roopl_lexer.declared.token.Symbol.{Symbol}
 use Rattle.roopl_parser.specs.roopl_lexer.declared.token.TokenKind.{TokenKind}

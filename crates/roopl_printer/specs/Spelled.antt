@@ -1,19 +1,19 @@
 -- The printed tokens of a syntax tree, in the order of the grammar.
 use Rattle.std.specs.Prelude.{ℕ, Bool, true, false, List, [], ◌∷◌, ◌++◌, Option, Some, None}
 use Rattle.std.specs.List.{flat_map}
-use Rattle.rpp_tree.specs.declared.tree.Ident.{Ident}
-use Rattle.rpp_tree.specs.declared.tree.Var.{Var}
-use Rattle.rpp_tree.specs.declared.tree.VarType.{VarType}
-use Rattle.rpp_tree.specs.declared.tree.VarType.TheVariants as type
-use Rattle.rpp_tree.specs.declared.tree.BinOp.{BinOp}
-use Rattle.rpp_tree.specs.declared.tree.BinOp.TheVariants as op
-use Rattle.rpp_tree.specs.declared.tree.UpdateOp.{UpdateOp}
-use Rattle.rpp_tree.specs.declared.tree.UpdateOp.TheVariants as update
-use Rattle.rpp_tree.specs.Tree.{Expression, Number, Null, Variable, Element, Binary, Lvalue, Whole}
-use Rattle.rpp_tree.specs.Tree.{Item, Creation, Object, Ints, Objects, Statement, Statements}
-use Rattle.rpp_tree.specs.Tree.{Update, Swap, If, From, Construct, Local, New, Delete, Copy, Uncopy}
-use Rattle.rpp_tree.specs.Tree.{Call, Skip, End, Then, Procedure, ClassText, Source}
-use Rattle.rpp_tree.specs.Places.{place_name}
+use Rattle.roopl_parser.specs.rpp_tree.declared.tree.Ident.{Ident}
+use Rattle.roopl_parser.specs.rpp_tree.declared.tree.Var.{Var}
+use Rattle.roopl_parser.specs.rpp_tree.declared.tree.VarType.{VarType}
+use Rattle.roopl_parser.specs.rpp_tree.declared.tree.VarType.TheVariants as type
+use Rattle.roopl_parser.specs.rpp_tree.declared.tree.BinOp.{BinOp}
+use Rattle.roopl_parser.specs.rpp_tree.declared.tree.BinOp.TheVariants as op
+use Rattle.roopl_parser.specs.rpp_tree.declared.tree.UpdateOp.{UpdateOp}
+use Rattle.roopl_parser.specs.rpp_tree.declared.tree.UpdateOp.TheVariants as update
+use Rattle.roopl_parser.specs.rpp_tree.Tree.{Expression, Number, Null, Variable, Element, Binary, Lvalue, Whole}
+use Rattle.roopl_parser.specs.rpp_tree.Tree.{Item, Creation, Object, Ints, Objects, Statement, Statements}
+use Rattle.roopl_parser.specs.rpp_tree.Tree.{Update, Swap, If, From, Construct, Local, New, Delete, Copy, Uncopy}
+use Rattle.roopl_parser.specs.rpp_tree.Tree.{Call, Skip, End, Then, Procedure, ClassText, Source}
+use Rattle.roopl_parser.specs.rpp_tree.Places.{place_name}
 use Rattle.roopl_parser.specs.roopl_lexer.declared.token.Keyword.{Keyword}
 use Rattle.roopl_parser.specs.roopl_lexer.declared.token.Keyword.TheVariants as word
 use Rattle.roopl_parser.specs.roopl_lexer.declared.token.Symbol.{Symbol}

@@ -1,6 +1,6 @@
 // Statements and blocks.
 ghost use Rattle.std.specs.Prelude.{◌≡◌, ◌++◌, OnOk};
-ghost use Rattle.rpp_tree.specs.Views.{expression_of, lvalue_of, creation_of, optional_lvalue_of, statement_of, block_of};
+ghost use Rattle.roopl_parser.specs.rpp_tree.Views.{expression_of, lvalue_of, creation_of, optional_lvalue_of, statement_of, block_of};
 ghost use Rattle.roopl_printer.specs.Printed.{with_gap, with_gaps};
 ghost use Rattle.roopl_printer.specs.Spelled.{call_word, first_word, spelled_binding, spelled_block, spelled_creation, spelled_place, spelled_statement, spelled_target, spelled_type};
 
@@ -9,8 +9,8 @@ use crate::token::{put, put_name, update_sign};
 use crate::value::{
     put_expr, put_first_place, put_made, put_place, put_receiver, put_type, put_var,
 };
-use rpp_tree::tree::{Block, Expr, Ident, Made, Place, Stmt, Var, VarType};
-use rpp_words::NoMemory;
+use roopl_parser::tree::{Block, Ident, Made, Place, Var, VarType};
+use roopl_parser::{Expr, NoMemory, Stmt};
 
 /// Adds the statements of a block.
 #[cycle(put_code)]

@@ -6,8 +6,8 @@ ghost use Rattle.roopl_printer.specs.Spelled.{after_comma, name_alone, spelled_n
 
 use crate::token::{put, put_name};
 use crate::value::put_var;
-use rpp_tree::tree::{Ident, Var};
-use rpp_words::NoMemory;
+use roopl_parser::NoMemory;
+use roopl_parser::tree::{Ident, Var};
 
 /// Adds names, with a comma between two of them.
 pub(crate) fn put_names(out: &mut Vec<u8>, names: &[Ident]) -> Result<(), NoMemory>

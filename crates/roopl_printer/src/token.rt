@@ -5,8 +5,8 @@ ghost use Rattle.roopl_printer.specs.Spelled.{operator, update_sign};
 ghost use Rattle.roopl_parser.specs.roopl_lexer.declared.token.TokenKind.TheVariants.{Name, Number};
 
 use itoa::Buffer;
-use rpp_tree::tree::{BinOp, Ident, UpdateOp};
-use rpp_words::NoMemory;
+use roopl_parser::NoMemory;
+use roopl_parser::tree::{BinOp, Ident, UpdateOp};
 
 /// Adds bytes at the end.
 pub(crate) fn put(out: &mut Vec<u8>, bytes: &[u8]) -> Result<(), NoMemory>

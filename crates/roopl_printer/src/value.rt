@@ -1,12 +1,12 @@
 // Expressions, places, types and variables.
 ghost use Rattle.std.specs.Prelude.{◌≡◌, ◌++◌, OnOk};
-ghost use Rattle.rpp_tree.specs.Views.{expression_of, lvalue_of, creation_of, optional_lvalue_of};
+ghost use Rattle.roopl_parser.specs.rpp_tree.Views.{expression_of, lvalue_of, creation_of, optional_lvalue_of};
 ghost use Rattle.roopl_printer.specs.Printed.{with_gaps};
 ghost use Rattle.roopl_printer.specs.Spelled.{opening, closing, spelled_expression, spelled_place, spelled_index, first_place, spelled_creation, spelled_receiver, spelled_type, spelled_var};
 
 use crate::token::{operator, put, put_first_name, put_name, put_number};
-use rpp_tree::tree::{Expr, Made, Place, Var, VarType};
-use rpp_words::NoMemory;
+use roopl_parser::tree::{Made, Place, Var, VarType};
+use roopl_parser::{Expr, NoMemory};
 
 /// Adds an expression.
 #[cycle(put_values)]

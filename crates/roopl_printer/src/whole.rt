@@ -2,16 +2,16 @@
 ghost use Rattle.std.specs.Prelude.{◌≡◌, ◌++◌, ◌∷◌, [], All, IfOk, OnOk, map, string_bytes};
 ghost use Rattle.std.specs.List.{flat_map};
 ghost use Rattle.std.specs.Str.{IsAscii};
-ghost use Rattle.rpp_tree.specs.Parts.{source_names};
-ghost use Rattle.rpp_tree.specs.Views.{procedure_of, class_text_of, source_of};
+ghost use Rattle.roopl_parser.specs.rpp_tree.Parts.{source_names};
+ghost use Rattle.roopl_parser.specs.rpp_tree.Views.{procedure_of, class_text_of, source_of};
 ghost use Rattle.roopl_printer.specs.Printed.{with_gaps, printed_text};
 ghost use Rattle.roopl_printer.specs.Spelled.{printed, spelled_class, spelled_method, spelled_parent};
 
 use crate::code::put_block;
 use crate::list::{put_fields, put_vars};
 use crate::token::{put, put_name};
-use rpp_tree::tree::{Class, Ident, Method, Program};
-use rpp_words::NoMemory;
+use roopl_parser::NoMemory;
+use roopl_parser::tree::{Class, Ident, Method, Program};
 use std::alloc::Global;
 
 /// The text of a program: its tokens in the order of the grammar, with one space between two of

@@ -5,3 +5,8 @@
 #![tactic(auto)]
 
 pub mod laws;
+
+pub use buddy_book::{Book, MOST_DEEP, order_for};
+pub use class_rules::{Input, Limits, limits};
+pub use code_conventions::{HEADER_WORDS, Image, cells, faults, memory, registers};
+pub use inverse_rules::NoMemory;

@@ -1,9 +1,7 @@
 //! The program: it holds a run open over files, standard input and standard output.
 #![tactic(auto)]
 
-use live_command::live;
-use live_port::InAsker;
-use rpp_ports::{FileShelf, OutSink};
+use live_command::{FileShelf, InAsker, OutSink, live};
 use std::io::{BufReader, ErrorKind};
 use std::process::ExitCode;
 use std::{env, io};

@@ -6,12 +6,10 @@ ghost use Rattle.plan_serving.specs.Places.{at_place};
 ghost use Rattle.program_commands.specs.RunPlans.{RunGoesOn, TurnsFile};
 ghost use Rattle.program_commands.specs.ToldShort.{TurnsFileShort};
 
-use command_plan::{NoPlan, Plan, Sizes};
-use pisa_machine::Steps;
-use plan_serving::place_input;
-use program_commands::{go, turn};
-use rpp_ports::Shelf;
-use rpp_probes::Probes;
+use command_line::{NoPlan, Plan, Sizes};
+use image_commands::Steps;
+use plan_serving::{Shelf, place_input};
+use program_commands::{Probes, go, turn};
 use std::alloc::Global;
 use std::sync::ledger::Ledger;
 

@@ -5,4 +5,7 @@ mod going;
 mod reading;
 mod top;
 
+pub use image_commands::{Coverage, DeepestPlace, Probe, StepTally};
+pub use plan_serving::{FileShelf, MemoryShelf, MemorySink, Named, NoMemory, OutSink};
+pub use program_commands::Probes;
 pub use top::rooplpp;

@@ -6,13 +6,9 @@ ghost use Rattle.plan_serving.specs.Wanted.{file_of};
 ghost use Rattle.cluster_commands.specs.ClusterPlans.{cluster_files};
 ghost use Rattle.rpp_command.specs.Causes.{files_of};
 
-use command_line::Line;
-use command_plan::{MOST_IMAGE, MOST_STATE, StateNames};
-use pisa_asm::MOST_TEXT;
-use pisa_loader::MOST_INPUT;
-use pisa_scripts::MOST_SCRIPT;
-use plan_serving::Wanted;
-use rpp_tree::MOST_BYTES;
+use command_line::{Line, MOST_IMAGE, MOST_SCRIPT, MOST_STATE, MOST_TEXT, StateNames};
+use plan_serving::limits::MOST_BYTES;
+use plan_serving::{MOST_INPUT, Wanted};
 use std::alloc::{AllocError, Global};
 
 /// The files that a line reads, in order.

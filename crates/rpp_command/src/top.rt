@@ -18,15 +18,13 @@ ghost use Rattle.rpp_command.specs.Told.{CarriesOutTold, AnswersTold, EndsEarly}
 use crate::going::{go_line, turn_line};
 use crate::reading::wanted_files;
 use cluster_commands::cluster;
-use command_line::{Line, read_words};
-use command_plan::{Broken, NoPlan, Plan, Room, Sizes, Verdict, status_of};
+use command_line::{Broken, Line, NoPlan, Plan, Room, Sizes, Verdict, read_words, status_of};
 use explain_commands::explain;
-use image_commands::{asm, debug, flip, list, run};
-use pisa_machine::Steps;
-use plan_serving::{HeldShelf, fetch, finish, place_images, place_input, place_states, say};
-use program_commands::{check, compile_file, profile};
-use rpp_ports::{Shelf, Sink};
-use rpp_probes::Probes;
+use image_commands::{Steps, asm, debug, flip, list, run};
+use plan_serving::{
+    HeldShelf, Shelf, Sink, fetch, finish, place_images, place_input, place_states, say,
+};
+use program_commands::{Probes, check, compile_file, profile};
 use std::alloc::Global;
 use std::marker::Brand;
 use std::sync::ledger::{Blank, Ledger};

@@ -1,7 +1,7 @@
 // The numbers of the faults.
 ghost use Rattle.std.specs.Prelude.{◌≡◌};
 
-use code_conventions::faults::{
+use bennett_wrap::faults::{
     CLASS_DIFFERS, COUNT, DELOCAL, FI, HEAP_FULL, INDEX, LENGTH, LENGTH_DIFFERS, LOOP, NIL,
     NOT_EMPTY, NOT_NIL, NOT_SAME, SHARED_ARRAY, TOO_DEEP, TOUCHED,
 };

@@ -1,14 +1,12 @@
 // The sizes of files, and the numbers of runs and probes.
 ghost use Rattle.std.specs.Prelude.{◌≡◌};
-ghost use Rattle.command_plan.specs.rpp_probes.declared.coverage.TheConstants.{MOST_PLACES};
+ghost use Rattle.command_line.specs.rpp_probes.declared.coverage.TheConstants.{MOST_PLACES};
 ghost use Rattle.source_debugger.specs.source_courses.declared.running.TheConstants.{MOST_COST};
 
-use command_line::{MOST_COMMON, MOST_ITEMS, MOST_PROCESSORS};
-use command_plan::{MOST_IMAGE, MOST_STATE};
-use debugger_scripts::MOST_SHOWN;
-use pisa_asm::MOST_TEXT;
-use pisa_loader::MOST_INPUT;
-use pisa_scripts::{MOST_DIGITS, MOST_SCRIPT};
+use command_line::{
+    MOST_COMMON, MOST_IMAGE, MOST_INPUT, MOST_ITEMS, MOST_PROCESSORS, MOST_STATE, MOST_TEXT,
+};
+use debugger_scripts::{MOST_DIGITS, MOST_SCRIPT, MOST_SHOWN};
 use two_way_debugger::LAST_POSITION;
 
 /// The most bytes of files, and the numbers of runs and probes.

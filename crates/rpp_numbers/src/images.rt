@@ -1,13 +1,13 @@
 // The numbers of images and of states.
 ghost use Rattle.std.specs.Prelude.{◌≡◌, ◌∷◌, []};
-ghost use Rattle.pisa_image.specs.declared.reading.TheConstants.{MARK};
-ghost use Rattle.pisa_loader.specs.declared.state.TheConstants.{STATE_MARK, STATE_VERSION};
+ghost use Rattle.command_line.specs.pisa_image.declared.reading.TheConstants.{MARK};
+ghost use Rattle.command_line.specs.pisa_loader.declared.state.TheConstants.{STATE_MARK, STATE_VERSION};
 
-use bennett_wrap::MOST_COPIED;
-use pisa_image::{OLD_VERSION, VERSION};
-use pisa_isa::{
-    LAST_PLACE, MOST_CELLS, MOST_MARKS, MOST_NAME_BYTES, MOST_NAMES, MOST_STATICS, Op, ROWS,
+use bennett_wrap::{
+    LAST_PLACE, MOST_CELLS, MOST_COPIED, MOST_MARKS, MOST_NAME_BYTES, MOST_NAMES, MOST_STATICS, Op,
+    ROWS,
 };
+use command_line::{OLD_VERSION, VERSION};
 
 /// The numbers of images and of states, and the instructions in their order, from number 1 on.
 pub fn image_numbers()

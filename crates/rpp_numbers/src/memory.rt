@@ -1,13 +1,13 @@
 // The memory of a run.
 ghost use Rattle.std.specs.Prelude.{◌≡◌};
 
-use code_conventions::memory::{
+use bennett_wrap::memory::{
     COUNT_WORD, EXPRESSION_WORDS, FIRST_FIELD, FIRST_VARIABLE, LINK_WORD, MAIN_OBJECT,
     MOST_VARIABLES, OBJECT_WORD, PLACE_WORD, TABLE_HEADER,
 };
-use pisa_isa::{END_CELL, HEAP_CELL, LIST_HEADS, ORDER_CELL, STACK_CELL};
-use rpp_words::{FIXED_CELLS, FRAME_WORDS, HEADER_WORDS, MOST_DEEP, MOST_HEAP};
+use bennett_wrap::{END_CELL, HEAP_CELL, LIST_HEADS, ORDER_CELL, STACK_CELL};
 use source_meaning::MOST_OPEN;
+use two_way_debugger::{FIXED_CELLS, FRAME_WORDS, HEADER_WORDS, MOST_DEEP, MOST_HEAP};
 
 /// The numbers of the memory.
 pub fn memory_numbers()

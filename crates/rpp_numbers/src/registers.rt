@@ -1,7 +1,7 @@
 // The registers of compiled statements.
 ghost use Rattle.std.specs.Prelude.{◌≡◌};
 
-use code_conventions::registers::{
+use bennett_wrap::registers::{
     ADDRESS, AMOUNT, AT_LENGTH, AT_PLACE, BLOCK, CONTENT, FIRST_WORD, FLAG, FRAME, ITEM, LEFT,
     LEFT_TRUTH, LINK, MOVED, NOUGHT, OBJECT, OTHER_PLACE, OUTCOME, PLACE, RIGHT, RIGHT_TRUTH,
     SECOND_WORD, TRUTH, VALUE,

@@ -1,7 +1,7 @@
 // The limits of sources.
 ghost use Rattle.std.specs.Prelude.{◌≡◌};
 
-use rpp_tree::limits::{
+use command_line::limits::{
     MOST_BYTES, MOST_CLASSES, MOST_FIELDS, MOST_INDEX_DEPTH, MOST_LOCALS, MOST_METHODS,
     MOST_NESTING, MOST_NODES, MOST_NUMBER, MOST_PARAMETERS, MOST_PARENS, MOST_TOKENS,
 };

@@ -14,7 +14,9 @@ pub use limits::{
     MOST_NESTING, MOST_NODES, MOST_NUMBER, MOST_PARAMETERS, MOST_PARENS, MOST_TOKENS,
 };
 pub use places::place_of;
-pub use rpp_words::Text;
+pub use rpp_words::{
+    FieldWord, Input, Limits, NoMemory, Text, is_name_byte, less, wrap_add, wrap_sub,
+};
 pub use tree::{
     BinOp, Block, Class, Expr, Ident, Made, Method, Place, Program, Stmt, UpdateOp, Var, VarType,
 };

@@ -8,6 +8,14 @@ mod readying;
 mod settable;
 mod setting;
 
+pub use command_plan::{
+    ImageError, InputField, LoadError, MOST_IMAGE, MOST_INPUT, MOST_STATE, NoPlan, Plan, Room,
+    Shelf, Sizes, Verdict, bad_command_line, check_limits, fault_line, image_line, load, load_line,
+    load_more, load_state, pieces, read_file, read_given, read_image, read_input, read_input_file,
+    refuse_source, short_number,
+};
 pub use readying::ready;
+pub use roopl_judge::{Checked, SourceError, judge};
+pub use roopl_semantics::{Image, Input, Limits, MOST_DEEP, NoMemory, limits};
 pub use settable::input_fields;
 pub use setting::{Ready, RunSetting};

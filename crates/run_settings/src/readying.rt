@@ -12,11 +12,11 @@ ghost use Rattle.run_settings.specs.Runnable.{RefusesInput, RefusesSizes, Refuse
 
 use crate::settable::input_fields;
 use crate::setting::{Ready, RunSetting};
-use class_table::Checked;
-use command_plan::{Plan, Sizes, Verdict, load_line, refuse_source};
-use pisa_loader::{LoadError, check_limits, read_input};
-use roopl_judge::{SourceError, judge};
-use rpp_words::{Limits, MOST_DEEP, NoMemory};
+use command_plan::{
+    LoadError, Plan, Sizes, Verdict, check_limits, load_line, read_input, refuse_source,
+};
+use roopl_judge::{Checked, SourceError, judge};
+use roopl_semantics::{Limits, MOST_DEEP, NoMemory};
 use std::alloc::Global;
 
 /// What the run of a text on an input is made with, or the plan that reports the first refusal.

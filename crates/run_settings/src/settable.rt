@@ -4,9 +4,9 @@ ghost use Rattle.roopl_judge.specs.rpp_tree.Views.{source_of};
 ghost use Rattle.roopl_semantics.specs.Source.{is_int_type};
 ghost use Rattle.run_settings.specs.Inputs.{fields_from, input_fields as fields_of};
 
-use class_table::Checked;
-use pisa_loader::InputField;
-use rpp_tree::tree::{Var, VarType};
+use command_plan::InputField;
+use roopl_judge::Checked;
+use roopl_judge::tree::{Var, VarType};
 use std::alloc::{AllocError, Global};
 
 /// The int fields of a program's main class.

@@ -4,9 +4,9 @@ ghost use Rattle.roopl_judge.specs.rpp_tree.Views.{source_of};
 ghost use Rattle.roopl_judge.specs.rpp_words.Limits.{IsLimits};
 ghost use Rattle.roopl_semantics.specs.Source.{IsValid};
 
-use class_table::Checked;
 use command_plan::Plan;
-use rpp_words::{Input, Limits};
+use roopl_judge::Checked;
+use roopl_semantics::{Input, Limits};
 
 /// What a run is made with: the program, the sizes of heap and stack, the input, and the number of
 /// steps.

@@ -2,9 +2,9 @@
 use Rattle.std.proofs.Common.{◌≡◌, ◌<◌, ℕ, zero, suc, ◌+◌, refl, sym, ap, ap₂, subst, ◌∙◌, arith, Bool, true}
 use Rattle.std.proofs.Common.{not, List, [], ◌∷◌, ◌++◌, map, reverse, length, All, set, get_or, take, drop, append-nil}
 use Rattle.std.proofs.lemmas.List.{reverse-append, take_all, drop_all}
-use Rattle.rpp_tree.specs.declared.tree.Ident.{Ident}
-use Rattle.rpp_tree.specs.Tree.{Whole, Object as AnObject, Statements, Delete, End, Then, joined}
-use Rattle.rpp_tree.specs.Views.{expression_of, block_of}
+use Rattle.source_steps.specs.rpp_tree.declared.tree.Ident.{Ident}
+use Rattle.source_steps.specs.rpp_tree.Tree.{Whole, Object as AnObject, Statements, Delete, End, Then, joined}
+use Rattle.source_steps.specs.rpp_tree.Views.{expression_of, block_of}
 use Rattle.source_steps.specs.inverse_rules.Inverse.{inverse}
 use Rattle.source_steps.proofs.inverse_rules_laws.Inverses.{inverse-joined}
 use Rattle.source_steps.specs.roopl_semantics.Execution.{in_direction, constructed}

@@ -1,11 +1,11 @@
 -- The statements of a block by their places.
 use Rattle.std.proofs.Common.{◌≡◌, ℕ, zero, suc, ◌+◌, ◌<◌, ◌≤◌, ◌^◌, refl, sym, ap, ◌∙◌, arith, List, [], ◌∷◌}
 use Rattle.std.proofs.Common.{length, map, get_or, Bool, true, false}
-use Rattle.rpp_tree.specs.declared.tree.Stmt.{Stmt}
-use Rattle.rpp_tree.specs.declared.tree.Block.{Block}
-use Rattle.rpp_tree.specs.Tree.{Whole, Object as AnObject, Statement, Statements, New, Delete, End, Then, joined}
-use Rattle.rpp_tree.specs.Views.{statement_of, statements_of, block_of}
-use Rattle.rpp_tree.proofs.Blocks.{block_of-list}
+use Rattle.source_steps.specs.rpp_tree.declared.tree.Stmt.{Stmt}
+use Rattle.source_steps.specs.rpp_tree.declared.tree.Block.{Block}
+use Rattle.source_steps.specs.rpp_tree.Tree.{Whole, Object as AnObject, Statement, Statements, New, Delete, End, Then, joined}
+use Rattle.source_steps.specs.rpp_tree.Views.{statement_of, statements_of, block_of}
+use Rattle.source_steps.proofs.rpp_tree_laws.Blocks.{block_of-list}
 use Rattle.source_steps.specs.inverse_rules.Inverse.{inverse_statement, inverse}
 use Rattle.source_steps.specs.roopl_semantics.Execution.{in_direction}
 use Rattle.source_steps.specs.Ends.{turned}

@@ -1,4 +1,4 @@
-pub use Rattle.rpp_tree.proofs as rpp_tree_laws
+pub use Rattle.source_steps.proofs.rpp_tree_laws
 pub use Rattle.source_steps.proofs.class_rules_laws
 pub use Rattle.source_steps.proofs.roopl_semantics_laws
 pub use Rattle.source_steps.proofs.meaning_points_laws

@@ -4,7 +4,7 @@ use Rattle.std.proofs.Common.{reverse, length, All, Some, Bool}
 use Rattle.std.proofs.lemmas.List.{reverse-append, length-append, length-map, length-reverse}
 use Rattle.std.specs.Prelude.{slice_get, slice_set}
 use Rattle.std.proofs.lemmas.List.Elements.{All-push, All-pop}
-use Rattle.rpp_tree.specs.Tree.{Statements, End}
+use Rattle.source_steps.specs.rpp_tree.Tree.{Statements, End}
 use Rattle.source_steps.specs.meaning_machine.Machine.{Config, Open, OpenPart as Runs, past_it, inside}
 use Rattle.source_blocks.specs.declared.task.Task.{Task}
 use Rattle.source_blocks.specs.declared.frames.Part.{Part}

@@ -4,7 +4,7 @@ use Rattle.std.proofs.Common.{arith, [], slice_index_or, remove, Vec, Global}
 use Rattle.std.specs.Prelude.{Result, Ok, Err, OnOk, MatchResult}
 use Rattle.source_steps.specs.roopl_semantics.Store.{State}
 use Rattle.source_steps.specs.roopl_semantics.Execution.{opened, closed}
-use Rattle.rpp_tree.specs.Tree.{Statements}
+use Rattle.source_steps.specs.rpp_tree.Tree.{Statements}
 use Rattle.source_steps.specs.meaning_machine.Machine.{Config, OpenPart, inside}
 use Rattle.source_steps.specs.source_store.declared.value.Value.{Value as Held}
 use Rattle.source_steps.specs.source_store.HeapView.{Kept}

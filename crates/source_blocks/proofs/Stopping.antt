@@ -1,8 +1,8 @@
 -- Where a run may run out of memory.
 use Rattle.std.proofs.Common.{◌≡◌, sym, subst}
 use Rattle.std.specs.Prelude.{Result, Ok, Err, IfErr}
-use Rattle.rpp_tree.specs.Tree.{Whole, Item, Statement, Update, Swap, If, From, Construct, Local, New, Delete}
-use Rattle.rpp_tree.specs.Tree.{Copy, Uncopy, Call, Skip}
+use Rattle.source_steps.specs.rpp_tree.Tree.{Whole, Item, Statement, Update, Swap, If, From, Construct, Local, New, Delete}
+use Rattle.source_steps.specs.rpp_tree.Tree.{Copy, Uncopy, Call, Skip}
 use Rattle.source_steps.specs.declared.stop.Stop.{Stop}
 use Rattle.source_steps.specs.Metered.{IsOwn, IsOwnOrFull}
 use Rattle.source_steps.proofs.Fuelled.{either}

@@ -1,7 +1,7 @@
 -- The kinds of statements, as they are and inverted.
 use Rattle.std.proofs.Common.{◌≡◌, refl, Bool, true, false}
-use Rattle.rpp_tree.specs.Tree.{Statement, Update, Swap, If, From, Construct, Local, New, Delete, Copy, Uncopy, Call}
-use Rattle.rpp_tree.specs.Tree.{Skip}
+use Rattle.source_steps.specs.rpp_tree.Tree.{Statement, Update, Swap, If, From, Construct, Local, New, Delete, Copy, Uncopy, Call}
+use Rattle.source_steps.specs.rpp_tree.Tree.{Skip}
 use Rattle.source_steps.specs.Ends.{turned}
 use Rattle.source_blocks.specs.Requests.{is_request}
 use Rattle.source_blocks.specs.Runs.{IsSimple}

@@ -1,6 +1,6 @@
 -- How far a block has run.
 use Rattle.std.specs.Prelude.{ℕ, zero, suc}
-use Rattle.rpp_tree.specs.Tree.{Statement, Statements, Skip, End, Then}
+use Rattle.source_steps.specs.rpp_tree.Tree.{Statement, Statements, Skip, End, Then}
 
 -- the statement after so many of a block
 abbrev pub statement_at : ℕ → Statements → Statement

@@ -1,6 +1,6 @@
 -- What a block ends in.
 use Rattle.std.specs.Prelude.{◌≡◌, List, []}
-use Rattle.rpp_tree.specs.Views.{expression_of}
+use Rattle.source_steps.specs.rpp_tree.Views.{expression_of}
 use Rattle.source_steps.specs.roopl_semantics.Store.{Value}
 use Rattle.source_steps.specs.roopl_semantics.Value.{Cell}
 use Rattle.source_steps.specs.meaning_machine.Machine.{Open, Chosen, Calling, Caller as From}

@@ -1,5 +1,5 @@
 pub use Rattle.source_steps.specs.rpp_words
-pub use Rattle.rpp_tree.specs as rpp_tree
+pub use Rattle.source_steps.specs.rpp_tree
 pub use Rattle.source_steps.specs.class_rules
 pub use Rattle.source_steps.specs.inverse_rules
 pub use Rattle.source_steps.specs.roopl_semantics

@@ -1,8 +1,8 @@
 -- What is open, as the machine sees it.
 use Rattle.std.specs.Prelude.{◌≡◌, ◌<◌, ℕ, suc, List, [], ◌∷◌, ◌++◌, map, length, Option, Some}
 use Rattle.std.specs.Prelude.{None}
-use Rattle.rpp_tree.specs.Tree.{Expression, Null}
-use Rattle.rpp_tree.specs.Views.{expression_of, block_of}
+use Rattle.source_steps.specs.rpp_tree.Tree.{Expression, Null}
+use Rattle.source_steps.specs.rpp_tree.Views.{expression_of, block_of}
 use Rattle.source_steps.specs.roopl_semantics.Store.{Value}
 use Rattle.source_steps.specs.roopl_semantics.Value.{Cell}
 use Rattle.source_steps.specs.roopl_semantics.Execution.{in_direction}

@@ -1,6 +1,6 @@
 -- Requests to the heap that are undone, if a run is reversed.
 use Rattle.std.specs.Prelude.{Bool, true, false}
-use Rattle.rpp_tree.specs.Tree.{Statement, New, Delete}
+use Rattle.source_steps.specs.rpp_tree.Tree.{Statement, New, Delete}
 use Rattle.source_steps.specs.roopl_semantics.Run.{Run, give}
 use Rattle.source_steps.specs.roopl_semantics.Store.{State}
 use Rattle.source_steps.specs.roopl_semantics.Execution.{Setting}

@@ -2,8 +2,8 @@
 use Rattle.std.specs.Prelude.{◌≡◌, ◌≤◌, ℕ, suc, List, [], ◌∷◌, ◌++◌, map, reverse, length, All}
 use Rattle.std.specs.Prelude.{Option}
 use Rattle.std.specs.Prelude.{Some, None}
-use Rattle.rpp_tree.specs.Tree.{Statement, Statements, Update, Swap, New, Delete, Copy, Uncopy}
-use Rattle.rpp_tree.specs.Tree.{Skip}
+use Rattle.source_steps.specs.rpp_tree.Tree.{Statement, Statements, Update, Swap, New, Delete, Copy, Uncopy}
+use Rattle.source_steps.specs.rpp_tree.Tree.{Skip}
 use Rattle.source_steps.specs.roopl_semantics.Store.{State}
 use Rattle.source_steps.specs.meaning_machine.Machine.{Config, Open, left}
 use Rattle.source_steps.specs.source_store.ValueView.{values_of}

@@ -1,7 +1,7 @@
 -- Where a run may run out of memory.
 use Rattle.std.specs.Prelude.{◌≢◌, []}
-use Rattle.rpp_tree.specs.Tree.{Lvalue, Whole, Item, Statement, Update, Swap, If, From, Construct}
-use Rattle.rpp_tree.specs.Tree.{Local, New, Delete, Copy, Uncopy, Call, Skip}
+use Rattle.source_steps.specs.rpp_tree.Tree.{Lvalue, Whole, Item, Statement, Update, Swap, If, From, Construct}
+use Rattle.source_steps.specs.rpp_tree.Tree.{Local, New, Delete, Copy, Uncopy, Call, Skip}
 use Rattle.source_steps.specs.declared.stop.Stop.{Stop}
 use Rattle.source_steps.specs.Metered.{IsOwn, IsOwnOrFull}
 

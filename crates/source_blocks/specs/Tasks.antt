@@ -1,9 +1,9 @@
 -- The blocks that run, and their statements.
 use Rattle.std.specs.Prelude.{ℕ, Some}
-use Rattle.rpp_tree.specs.Tree.{Lvalue, Whole, Object as AnObject, Statement, Statements, New}
-use Rattle.rpp_tree.specs.Tree.{Delete}
-use Rattle.rpp_tree.specs.Tree.{Swap, Call, End, Then}
-use Rattle.rpp_tree.specs.Views.{lvalue_of, statement_of, block_of}
+use Rattle.source_steps.specs.rpp_tree.Tree.{Lvalue, Whole, Object as AnObject, Statement, Statements, New}
+use Rattle.source_steps.specs.rpp_tree.Tree.{Delete}
+use Rattle.source_steps.specs.rpp_tree.Tree.{Swap, Call, End, Then}
+use Rattle.source_steps.specs.rpp_tree.Views.{lvalue_of, statement_of, block_of}
 use Rattle.source_steps.specs.roopl_semantics.Execution.{in_direction, constructed, element_name}
 use Rattle.source_steps.specs.Ends.{turned}
 use Rattle.source_blocks.specs.declared.task.Calls.{Calls}

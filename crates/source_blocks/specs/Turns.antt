@@ -1,6 +1,6 @@
 -- A loop that goes on in the other part of its iteration.
 use Rattle.std.specs.Prelude.{◌≡◌, ◌++◌, Bool, if◌then◌else◌, List, [], ◌∷◌}
-use Rattle.rpp_tree.specs.Tree.{Statements, End}
+use Rattle.source_steps.specs.rpp_tree.Tree.{Statements, End}
 use Rattle.source_steps.specs.meaning_machine.Machine.{Config, OpenPart, First, Again, Open, turned_to}
 use Rattle.source_blocks.specs.declared.frames.Frame.{Frame}
 use Rattle.source_blocks.specs.Opens.{open_of, part_of, IsOpen}

@@ -8,9 +8,7 @@ ghost use Rattle.source_blocks.specs.Endings.{IsEnding};
 
 use crate::frames::{Frame, Local, Loop, Part};
 use crate::run::{Run, scope_of};
-use rpp_tree::tree::Expr;
-use source_steps::{Cell, read_cell};
-use source_store::Value;
+use source_steps::{Cell, Expr, Value, read_cell};
 
 /// What a block ends in.
 #[derive(Clone, Copy)]

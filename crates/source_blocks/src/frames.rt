@@ -4,9 +4,8 @@ ghost use Rattle.source_steps.specs.meaning_machine.Turned.{turned_open, turned_
 ghost use Rattle.source_blocks.specs.Opens.{open_of, part_of, IsCaller, IsOpen};
 
 use crate::task::{Task, count_in, undone_task};
-use rpp_tree::tree::{Block, Expr, Var};
-use source_steps::Cell;
-use source_store::Value;
+use source_steps::tree::{Block, Var};
+use source_steps::{Cell, Expr, Value};
 use std::mem::swap;
 
 /// A loop, in its direction.

@@ -1,7 +1,7 @@
 // Requests to the heap, undone if the run is reversed.
 ghost use Rattle.std.specs.Prelude.{◌≡◌, ◌≤◌, OnOk, true};
-ghost use Rattle.rpp_tree.specs.Tree.{Whole, Object as AnObject};
-ghost use Rattle.rpp_tree.specs.Views.{creation_of, lvalue_of, statement_of};
+ghost use Rattle.source_steps.specs.rpp_tree.Tree.{Whole, Object as AnObject};
+ghost use Rattle.source_steps.specs.rpp_tree.Views.{creation_of, lvalue_of, statement_of};
 ghost use Rattle.source_steps.specs.meaning_machine.Reversed.{undeleted as undeleted_in, unmade as unmade_in};
 ghost use Rattle.source_steps.specs.Ends.{turned};
 ghost use Rattle.source_steps.specs.Metered.{MeteredGives, metered, OnFault};
@@ -12,8 +12,8 @@ ghost use Rattle.source_blocks.specs.Runs.{IsSound, state_in};
 
 use crate::run::{Run, scope_of};
 use crate::task::Line;
-use rpp_tree::tree::{Ident, Made, Place, Stmt};
-use source_steps::{Stop, undelete_object, undeleted, unmade, whole_place};
+use source_steps::tree::{Ident, Made, Place};
+use source_steps::{Stmt, Stop, undelete_object, undeleted, unmade, whole_place};
 
 /// Whether a statement of the text is `new` or `delete`.
 fn is_asking(stmt: &Stmt) -> bool

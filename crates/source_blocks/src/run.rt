@@ -11,9 +11,8 @@ ghost use Rattle.source_blocks.specs.Runs.{IsSound, config_of, state_in, here_in
 
 use crate::frames::{Frame, Part, turn_frames};
 use crate::task::{Task, count_in, undone_task};
-use rpp_tree::tree::Var;
-use source_steps::{Scope, Setting, Stop};
-use source_store::{Heap, Lack, Value};
+use source_steps::tree::Var;
+use source_steps::{Heap, Lack, Scope, Setting, Stop, Value};
 
 /// A run: the method that is open last with its variables, the heap, the block that runs there, how
 /// many statements of it are past, and what is open around it, the innermost last.

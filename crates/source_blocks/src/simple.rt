@@ -1,7 +1,7 @@
 // Statements that hold no block, and are no calls.
 ghost use Rattle.std.specs.Prelude.{◌≡◌, ◌≤◌, OnOk, true, IfErr};
-ghost use Rattle.rpp_tree.specs.Tree.{New, Delete, Whole, Object as AnObject};
-ghost use Rattle.rpp_tree.specs.Views.{statement_of, lvalue_of};
+ghost use Rattle.source_steps.specs.rpp_tree.Tree.{New, Delete, Whole, Object as AnObject};
+ghost use Rattle.source_steps.specs.rpp_tree.Views.{statement_of, lvalue_of};
 ghost use Rattle.source_steps.specs.Ends.{EndsAs, turned, does_simply};
 ghost use Rattle.source_steps.specs.Metered.{MeteredGives, OnFault};
 ghost use Rattle.source_steps.specs.StateView.{IsFramed, state_of};
@@ -11,12 +11,11 @@ ghost use Rattle.source_blocks.specs.Stops.{MayStop};
 
 use crate::run::{Run, scope_of};
 use crate::task::Line;
-use rpp_tree::tree::{Ident, Place, Stmt};
+use source_steps::tree::{Ident, Place};
 use source_steps::{
-    Scope, Setting, Stop, copy, delete_made, delete_object, element_place, new_made, new_object,
-    swap, uncopy, undone, update, whole_place,
+    Heap, Scope, Setting, Stmt, Stop, Value, copy, delete_made, delete_object, element_place,
+    new_made, new_object, swap, uncopy, undone, update, whole_place,
 };
-use source_store::{Heap, Value};
 
 /// A simple statement of the text, as it stands.
 #[inline(always)]

@@ -1,13 +1,14 @@
 // The blocks that run, and their statements.
 ghost use Rattle.std.specs.Prelude.{◌≡◌, ◌<◌, ◌≤◌, ◌-◌, IfNone, IfSome, false};
-ghost use Rattle.rpp_tree.specs.Views.{block_of, statement_of};
+ghost use Rattle.source_steps.specs.rpp_tree.Views.{block_of, statement_of};
 ghost use Rattle.source_steps.specs.inverse_rules.Inverse.{inverse};
 ghost use Rattle.source_steps.specs.roopl_semantics.Execution.{in_direction};
 ghost use Rattle.source_steps.specs.Ends.{turned};
 ghost use Rattle.source_blocks.specs.Blocks.{statement_at, statement_count};
 ghost use Rattle.source_blocks.specs.Tasks.{task_of, statement_line};
 
-use rpp_tree::tree::{Block, Ident, Place, Stmt};
+use source_steps::Stmt;
+use source_steps::tree::{Block, Ident, Place};
 
 /// A call, in its direction, with its method and its arguments.
 #[derive(Clone, Copy)]

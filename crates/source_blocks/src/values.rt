@@ -1,6 +1,6 @@
 // The values that are read at the position of a run.
 ghost use Rattle.std.specs.Prelude.{◌<◌, ◌≤◌, IfOk, IfErr};
-ghost use Rattle.rpp_tree.specs.Views.{expression_of};
+ghost use Rattle.source_steps.specs.rpp_tree.Views.{expression_of};
 ghost use Rattle.source_steps.specs.roopl_semantics.Value.{evaluated};
 ghost use Rattle.source_steps.specs.source_store.ValueView.{value_of};
 ghost use Rattle.source_steps.specs.Metered.{MeteredGives, metered, IsOwn};
@@ -10,9 +10,7 @@ ghost use Rattle.source_blocks.specs.Runs.{IsSound, state_in};
 
 use crate::frames::Closing;
 use crate::run::{Run, scope_of};
-use rpp_tree::tree::Expr;
-use source_steps::{Stop, evaluate, spend};
-use source_store::Value;
+use source_steps::{Expr, Stop, Value, evaluate, spend};
 
 /// The value of an expression of the text.
 pub fn value_in(run: &Run, fuel: &mut u64, e: &Expr) -> Result<Value, Stop>

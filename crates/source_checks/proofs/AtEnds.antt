@@ -1,8 +1,8 @@
 -- What is tested at the end of a block.
 use Rattle.std.proofs.Common.{◌≡◌, ◌∙◌, refl, sym, ap, ℕ, zero, suc, ◌-◌, ◌≤◌, arith, List, map, reverse, length, Some}
 use Rattle.std.specs.Prelude.{Result, Ok, Err, IfOk, slice_get, codes}
-use Rattle.rpp_tree.specs.Tree.{Source, Statements, End, Then, Statement}
-use Rattle.rpp_tree.specs.Places.{statement_place}
+use Rattle.source_blocks.specs.rpp_tree.Tree.{Source, Statements, End, Then, Statement}
+use Rattle.source_blocks.specs.rpp_tree.Places.{statement_place}
 use Rattle.source_blocks.specs.roopl_semantics.Store.{State, Value}
 use Rattle.source_blocks.specs.roopl_semantics.Value.{Cell}
 use Rattle.source_blocks.specs.roopl_semantics.Execution.{Setting}

@@ -1,7 +1,7 @@
 -- What the checks of an inverted statement look at is what they looked at.
 use Rattle.std.proofs.Common.{◌≡◌, refl, Bool, true, false}
-use Rattle.rpp_tree.specs.Tree.{Source, Statement, Update, Swap, If, From, Construct, Local, New, Delete, Copy, Uncopy}
-use Rattle.rpp_tree.specs.Tree.{Call, Skip}
+use Rattle.source_blocks.specs.rpp_tree.Tree.{Source, Statement, Update, Swap, If, From, Construct, Local, New, Delete, Copy, Uncopy}
+use Rattle.source_blocks.specs.rpp_tree.Tree.{Call, Skip}
 use Rattle.source_blocks.specs.inverse_rules.Inverse.{inverse_statement}
 use Rattle.source_blocks.specs.source_steps.Ends.{turned}
 use Rattle.source_blocks.specs.roopl_semantics.Store.{State}

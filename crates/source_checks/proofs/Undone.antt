@@ -1,8 +1,8 @@
 -- An inverted statement has the offset that it had.
 use Rattle.std.proofs.Common.{◌≡◌, refl, Bool, true, false}
-use Rattle.rpp_tree.specs.Tree.{Statement, Update, Swap, If, From, Construct, Local, New, Delete, Copy, Uncopy, Call}
-use Rattle.rpp_tree.specs.Tree.{Skip}
-use Rattle.rpp_tree.specs.Places.{statement_place}
+use Rattle.source_blocks.specs.rpp_tree.Tree.{Statement, Update, Swap, If, From, Construct, Local, New, Delete, Copy, Uncopy, Call}
+use Rattle.source_blocks.specs.rpp_tree.Tree.{Skip}
+use Rattle.source_blocks.specs.rpp_tree.Places.{statement_place}
 use Rattle.source_blocks.specs.inverse_rules.Inverse.{inverse_statement}
 use Rattle.source_blocks.specs.source_steps.Ends.{turned}
 

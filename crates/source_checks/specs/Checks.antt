@@ -2,10 +2,10 @@
 use Rattle.std.specs.Prelude.{ℕ, Bool, true, false, nat_eq, List, [], ◌∷◌, ◌++◌, length}
 use Rattle.std.specs.Prelude.{if◌then◌else◌, Result, Ok, Err}
 use Rattle.std.specs.Option.{unwrap_or}
-use Rattle.rpp_tree.specs.declared.tree.VarType.{VarType}
-use Rattle.rpp_tree.specs.Tree.{Expression, Number, Null, Variable, Element, Binary, Lvalue, Whole}
-use Rattle.rpp_tree.specs.Tree.{Item, Creation, Object as AnObject, Ints, Objects, Statement}
-use Rattle.rpp_tree.specs.Tree.{Source, Update, Swap, If, Local, New, Delete, Copy, Uncopy}
+use Rattle.source_blocks.specs.rpp_tree.declared.tree.VarType.{VarType}
+use Rattle.source_blocks.specs.rpp_tree.Tree.{Expression, Number, Null, Variable, Element, Binary, Lvalue, Whole}
+use Rattle.source_blocks.specs.rpp_tree.Tree.{Item, Creation, Object as AnObject, Ints, Objects, Statement}
+use Rattle.source_blocks.specs.rpp_tree.Tree.{Source, Update, Swap, If, Local, New, Delete, Copy, Uncopy}
 use Rattle.source_blocks.specs.class_rules.Classes.{class_number}
 use Rattle.source_blocks.specs.roopl_semantics.Store.{Value, Word, Nil, OfClass, State, Object}
 use Rattle.source_blocks.specs.roopl_semantics.Store.{object_at, number_of, is_zero, same_value}
@@ -17,7 +17,7 @@ use Rattle.source_blocks.specs.roopl_semantics.Execution.{LENGTH, TOO_DEEP}
 use Rattle.source_blocks.specs.meaning_machine.Machine.{Caller}
 use Rattle.source_compared.specs.Comparisons.{Compared, Values, Below, Missing, Count, Length, Size}
 use Rattle.source_compared.specs.Comparisons.{Heads, Nothing, first_of, access_at, to_be_zero}
-use Rattle.rpp_tree.specs.declared.tree.VarType.TheVariants as kind
+use Rattle.source_blocks.specs.rpp_tree.declared.tree.VarType.TheVariants as kind
 
 -- ---- the elements that an evaluation reads
 

@@ -1,9 +1,9 @@
 -- What the next step of a run tests: where it is in the text, and the values that it compares.
 use Rattle.std.specs.Prelude.{ℕ, zero, suc, ◌^◌, Bool, true, false, List, [], ◌∷◌, codes}
 use Rattle.std.specs.Prelude.{Option, Some, None}
-use Rattle.rpp_tree.specs.Tree.{Source, Expression, Number, Null, Variable, Element, Binary}
-use Rattle.rpp_tree.specs.Tree.{Statement, From, Statements, End, Then}
-use Rattle.rpp_tree.specs.Places.{statement_place}
+use Rattle.source_blocks.specs.rpp_tree.Tree.{Source, Expression, Number, Null, Variable, Element, Binary}
+use Rattle.source_blocks.specs.rpp_tree.Tree.{Statement, From, Statements, End, Then}
+use Rattle.source_blocks.specs.rpp_tree.Places.{statement_place}
 use Rattle.source_blocks.specs.roopl_semantics.Run.{Run, Done, Fault, More}
 use Rattle.source_blocks.specs.roopl_semantics.Store.{State}
 use Rattle.source_blocks.specs.roopl_semantics.Value.{Slot, read, value}

@@ -1,7 +1,7 @@
 -- What is tested, as it is kept.
 use Rattle.std.specs.Prelude.{ℕ, Bool, true, false, List, [], ◌∷◌}
-use Rattle.rpp_tree.specs.Places.{statement_place}
-use Rattle.rpp_tree.specs.Views.{expression_of}
+use Rattle.source_blocks.specs.rpp_tree.Places.{statement_place}
+use Rattle.source_blocks.specs.rpp_tree.Views.{expression_of}
 use Rattle.source_blocks.specs.roopl_semantics.Store.{State}
 use Rattle.source_blocks.specs.meaning_machine.Machine.{Open, OpenPart, Calling}
 use Rattle.source_blocks.specs.source_store.ValueView.{value_of}

@@ -1,6 +1,6 @@
 // The elements that an evaluation reads, and the first one that is not there.
 ghost use Rattle.std.specs.Prelude.{◌≡◌, true, IfOk};
-ghost use Rattle.rpp_tree.specs.Views.{creation_of, expression_of, lvalue_of, statement_of};
+ghost use Rattle.source_blocks.specs.rpp_tree.Views.{creation_of, expression_of, lvalue_of, statement_of};
 ghost use Rattle.source_blocks.specs.roopl_semantics.Value.{value as value_in_state, variable_value};
 ghost use Rattle.source_blocks.specs.source_store.ValueView.{value_of};
 ghost use Rattle.source_blocks.specs.source_steps.Ends.{turned};
@@ -13,11 +13,9 @@ ghost use Rattle.source_checks.specs.Checks.{failing_access as failing_access_of
 ghost use Rattle.source_compared.specs.ComparedView.{compared_of};
 
 use crate::closings::value_of_closing;
-use rpp_tree::Text;
-use rpp_tree::tree::{Expr, Made, Place, Stmt};
-use source_blocks::{Closing, Line, Run, scope_of};
+use source_blocks::tree::{Made, Place};
+use source_blocks::{Closing, Expr, Line, Run, Stmt, Text, cell_of_name, read_cell, scope_of};
 use source_compared::{Compared, Lack, Value, access_at, first_of};
-use source_steps::{cell_of_name, read_cell};
 
 /// The value of what a name means.
 pub(crate) fn variable(run: &Run, name: &Text) -> Value

@@ -1,8 +1,8 @@
 // What the checks of `new`, `delete`, `copy`, `uncopy` and calls compare.
 ghost use Rattle.std.specs.Prelude.{◌≡◌, ℕ, true, false, IfOk, Result as Outcome};
 ghost use Rattle.std.specs.Option.{unwrap_or};
-ghost use Rattle.rpp_tree.specs.Tree.{Object as AnObject};
-ghost use Rattle.rpp_tree.specs.Views.{creation_of, expression_of, lvalue_of, statement_of};
+ghost use Rattle.source_blocks.specs.rpp_tree.Tree.{Object as AnObject};
+ghost use Rattle.source_blocks.specs.rpp_tree.Views.{creation_of, expression_of, lvalue_of, statement_of};
 ghost use Rattle.source_blocks.specs.class_rules.Classes.{class_number};
 ghost use Rattle.source_blocks.specs.roopl_semantics.Store.{Value as Worth, Nil, object_at};
 ghost use Rattle.source_blocks.specs.roopl_semantics.Value.{value as value_in_state, read_cell as read_found, element_cell, element_of};
@@ -16,9 +16,8 @@ ghost use Rattle.source_checks.specs.TestedView.{subject_of};
 
 use crate::accesses::{begin_access, variable};
 use crate::closings::value_of_closing;
-use rpp_tree::Text;
-use rpp_tree::tree::{Expr, Made, Place, Stmt, VarType};
-use source_blocks::{Closing, Line, Run};
+use source_blocks::tree::{Made, Place, VarType};
+use source_blocks::{Closing, Expr, Line, Run, Stmt, Text};
 use source_compared::{Compared, Head, Heap, Lack, Value, first_of, to_be_zero};
 
 /// What a check looks at: what the place holds that is made, deleted or copied to. Then come the

@@ -6,9 +6,8 @@ ghost use Rattle.source_blocks.specs.Opens.{closing_of};
 ghost use Rattle.source_blocks.specs.Runs.{IsSound, state_in};
 ghost use Rattle.source_compared.specs.ComparedView.{IsValue};
 
-use source_blocks::{Closing, Run, closing_value};
+use source_blocks::{Closing, Run, Stop, closing_value};
 use source_compared::{Lack, Value};
-use source_steps::Stop;
 
 /// The value of what a variable ends with, or none if its evaluation meets a fault. One that costs
 /// more than 2 ^ 64 is refused as `Full`.

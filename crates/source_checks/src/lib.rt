@@ -10,6 +10,9 @@ mod testing;
 mod touched;
 
 pub use places::{line_place, place_at};
-pub use source_blocks::{Caller, Frame, Line, Part, Run, Task, line_at, turn};
-pub use source_compared::Compared;
+pub use source_blocks::{
+    Caller, FieldWord, Frame, Heap, Input, Lack, Limits, Line, Object, Part, Run, Task, Value,
+    line_at, turn,
+};
+pub use source_compared::{Compared, Head, NoMemory};
 pub use testing::{Tested, test_next};

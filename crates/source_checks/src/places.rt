@@ -1,15 +1,13 @@
 // The places of statements and expressions in the text.
 ghost use Rattle.std.specs.Prelude.{◌≡◌, ◌<◌, ◌≤◌, IfNone, IfSome};
-ghost use Rattle.rpp_tree.specs.Places.{statement_place};
-ghost use Rattle.rpp_tree.specs.Views.{expression_of};
+ghost use Rattle.source_blocks.specs.rpp_tree.Places.{statement_place};
+ghost use Rattle.source_blocks.specs.rpp_tree.Views.{expression_of};
 ghost use Rattle.source_blocks.specs.Opens.{closing_of};
 ghost use Rattle.source_blocks.specs.Blocks.{statement_count, statement_at};
 ghost use Rattle.source_blocks.specs.Tasks.{statement_line, task_of};
 ghost use Rattle.source_checks.specs.Failures.{first_offset as first_place_of};
 
-use rpp_tree::place_of;
-use rpp_tree::tree::Expr;
-use source_blocks::{Closing, Line, Task, line_at, statement_in};
+use source_blocks::{Closing, Expr, Line, Task, line_at, place_of, statement_in};
 
 /// The offset of a statement that runs: inverted, it has the offset that it had.
 #[tactic(auto, using(crate::proofs::Undone::place_turned))]

@@ -1,7 +1,7 @@
 // What the next step of a run tests.
 ghost use Rattle.std.specs.Prelude.{◌≡◌, IfOk, map, reverse, option_map};
-ghost use Rattle.rpp_tree.specs.Places.{statement_place};
-ghost use Rattle.rpp_tree.specs.Views.{expression_of, statement_of};
+ghost use Rattle.source_blocks.specs.rpp_tree.Places.{statement_place};
+ghost use Rattle.source_blocks.specs.rpp_tree.Views.{expression_of, statement_of};
 ghost use Rattle.source_blocks.specs.source_steps.StateView.{setting_of};
 ghost use Rattle.source_blocks.specs.Tasks.{statement_line};
 ghost use Rattle.source_blocks.specs.Opens.{open_of, part_of};
@@ -15,9 +15,8 @@ use crate::checks::compare_begin;
 use crate::closings::value_of_closing;
 use crate::places::{closing_place, first_place, line_place};
 use crate::touched::touched_around;
-use rpp_tree::tree::{Expr, Stmt};
 use source_blocks::{
-    Closing, Ending, Frame, Line, Local, Loop, Run, block_ending, innermost, line_at,
+    Closing, Ending, Expr, Frame, Line, Local, Loop, Run, Stmt, block_ending, innermost, line_at,
 };
 use source_compared::{
     Compared, Lack, choice_word, compare_truth, compare_values, local_word, loop_word,

@@ -10,9 +10,8 @@ ghost use Rattle.source_compared.specs.ComparedView.{compared_of};
 ghost use Rattle.source_checks.specs.TestedView.{around_touched};
 ghost use Rattle.source_blocks.specs.source_steps.Marks.{AreMarked};
 
-use source_blocks::{Caller, Part, Run, scope_of};
+use source_blocks::{Caller, Cell, Part, Run, Scope, Setting, read_cell, scope_of};
 use source_compared::{Compared, Heap, Value, to_be_zero};
-use source_steps::{Cell, Scope, Setting, read_cell};
 
 // The first of these cells that was changed.
 fn first_touched(

@@ -10,5 +10,5 @@ mod words;
 pub use comparing::{Compared, first_of, to_be_zero};
 pub use elements::access_at;
 pub use outcomes::{compare_truth, compare_values};
-pub use source_store::{Head, Heap, Lack, Value};
+pub use source_store::{Head, Heap, Lack, NoMemory, Value};
 pub use words::{choice_word, local_word, loop_word};

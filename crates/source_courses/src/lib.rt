@@ -9,5 +9,9 @@ mod running;
 mod watching;
 
 pub use moves::{Ending, LAST_POSITION, Walk, backward, forward};
+pub use pisa_scripts::{Command, Stop, add_stop};
 pub use places::{Place, place_at};
 pub use running::{Arrival, Course, Run, begin};
+pub use source_execution::{
+    Active, CallState, Compared, Execution, Input, Limits, NoMemory, Tested, Variable, find_failing,
+};

@@ -10,7 +10,7 @@ ghost use Rattle.source_courses.specs.Ended.{watching_of, left_of, latest_of, re
 
 use crate::running::{Course, Ended, Run, run_to};
 use crate::watching::Watching;
-use source_store::Lack;
+use source_execution::Lack;
 
 /// The last position that a debugger moves to.
 pub const LAST_POSITION: u64 = pisa_scripts::LAST_POSITION;

@@ -11,7 +11,7 @@ ghost use Rattle.source_courses.specs.Placed.{stand_of};
 use crate::moves::left_in;
 use crate::running::{Arrival, Course, Ended, Run, run_to};
 use crate::watching::Watching;
-use source_store::Lack;
+use source_execution::Lack;
 
 /// The position of a run: at a trace point, or at its end.
 #[derive(Drop)]

@@ -16,12 +16,8 @@ ghost use Rattle.source_courses.specs.Courses.{IsUnderWay, IsTurned, IsThere, Ho
 ghost use Rattle.source_courses.specs.Ended.{IsEnded, IsStopped, HasStopped};
 
 use crate::watching::{Watching, ahead, behind, surely, wanted};
-use class_table::Checked;
 use meaning_reversed::laws::steps_are_undone;
-use rpp_words::{Input, Limits, NoMemory};
-use source_execution::{Execution, Variable, breaks};
-use source_steps::Stop;
-use source_store::Lack;
+use source_execution::{Checked, Execution, Input, Lack, Limits, NoMemory, Stop, Variable, breaks};
 use std::alloc::Global;
 
 /// The highest cost of a run that is looked at: longer ones would take centuries, and are refused

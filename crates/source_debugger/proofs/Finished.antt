@@ -3,16 +3,16 @@ use Rattle.std.proofs.Common.{◌≡◌, ℕ, max, ap, ◌∙◌, arith, Bool, t
 use Rattle.std.proofs.Common.{if◌then◌else◌}
 use Rattle.std.specs.Prelude.{slice_get, nat_eq}
 use Rattle.std.proofs.lemmas.Bool.{le-leb}
-use Rattle.source_execution.specs.rpp_words.declared.input.FieldWord.{FieldWord}
-use Rattle.source_execution.specs.rpp_words.declared.input.Limits.{Limits}
-use Rattle.source_execution.specs.rpp_tree.Tree.{Source}
-use Rattle.source_execution.specs.roopl_semantics.Run.{Run, Done, Fault, More}
-use Rattle.source_execution.specs.roopl_semantics.Store.{State}
-use Rattle.source_execution.specs.roopl_semantics.Execution.{Setting}
-use Rattle.source_execution.specs.roopl_semantics.Source.{GivesDone, main_body, starting, within}
-use Rattle.source_execution.specs.meaning_points.Points.{Point}
-use Rattle.source_execution.specs.meaning_points.Trail.{trail}
-use Rattle.source_execution.proofs.meaning_points_laws.Growing.{points_done}
+use Rattle.source_courses.specs.rpp_words.declared.input.FieldWord.{FieldWord}
+use Rattle.source_courses.specs.rpp_words.declared.input.Limits.{Limits}
+use Rattle.source_courses.specs.rpp_tree.Tree.{Source}
+use Rattle.source_courses.specs.roopl_semantics.Run.{Run, Done, Fault, More}
+use Rattle.source_courses.specs.roopl_semantics.Store.{State}
+use Rattle.source_courses.specs.roopl_semantics.Execution.{Setting}
+use Rattle.source_courses.specs.roopl_semantics.Source.{GivesDone, main_body, starting, within}
+use Rattle.source_lines.specs.meaning_points.Points.{Point}
+use Rattle.source_lines.specs.meaning_points.Trail.{trail}
+use Rattle.source_courses.proofs.meaning_points_laws.Growing.{points_done}
 use Rattle.source_courses.specs.Walks.{AtEnd, Unknown, end_stand, point_stand, stand_at}
 
 end_in : (s t : State) → AtEnd s ≡ AtEnd t → s ≡ t

@@ -3,14 +3,14 @@ use Rattle.std.proofs.Common.{◌≡◌, ℕ, ◌+◌, ◌<◌, ◌≤◌, refl,
 use Rattle.std.proofs.Common.{append_assoc, List, [], ◌∷◌, ◌++◌, length, get_or, take, Option, Some, None}
 use Rattle.std.specs.Prelude.{Result, Ok, Err, IfOk}
 use Rattle.std.proofs.lemmas.List.{take_more, take_all}
-use Rattle.source_execution.specs.rpp_words.declared.input.FieldWord.{FieldWord}
-use Rattle.source_execution.specs.rpp_words.declared.input.Limits.{Limits}
-use Rattle.source_execution.specs.rpp_tree.declared.tree.Program.{Program}
-use Rattle.source_execution.specs.rpp_tree.Tree.{Source}
-use Rattle.source_execution.specs.rpp_tree.Views.{source_of}
-use Rattle.source_execution.specs.roopl_semantics.Report.{Text}
-use Rattle.source_execution.specs.meaning_points.Trail.{Trail, trail}
-use Rattle.pisa_scripts.specs.declared.command.Command.{Command}
+use Rattle.source_courses.specs.rpp_words.declared.input.FieldWord.{FieldWord}
+use Rattle.source_courses.specs.rpp_words.declared.input.Limits.{Limits}
+use Rattle.source_courses.specs.rpp_tree.declared.tree.Program.{Program}
+use Rattle.source_courses.specs.rpp_tree.Tree.{Source}
+use Rattle.source_courses.specs.rpp_tree.Views.{source_of}
+use Rattle.source_courses.specs.roopl_semantics.Report.{Text}
+use Rattle.source_lines.specs.meaning_points.Trail.{Trail, trail}
+use Rattle.source_courses.specs.pisa_scripts.declared.command.Command.{Command}
 use Rattle.source_courses.specs.declared.running.TheConstants.{MOST_COST}
 use Rattle.source_debugger.specs.Shown.{Told, told_by, behind_text, and_told, told}
 use Rattle.source_debugger.specs.Standing.{Standing, trail_of, CommandsLead, IsAlongRun}

@@ -3,18 +3,18 @@ use Rattle.std.proofs.Common.{◌≡◌, ℕ, zero, suc, ◌+◌, ◌<◌, ◌�
 use Rattle.std.proofs.Common.{◌∷◌, ◌++◌, length, length-append, Option, Some, None, if◌then◌else◌}
 use Rattle.std.specs.Prelude.{ℤ, slice_get, nat_eq, nat_lt}
 use Rattle.std.proofs.lemmas.Bool.{lt-ltb, ltb-true, ltb-false}
-use Rattle.source_execution.specs.rpp_words.declared.input.FieldWord.{FieldWord}
-use Rattle.source_execution.specs.rpp_words.declared.input.Limits.{Limits}
-use Rattle.source_execution.specs.rpp_tree.Tree.{Source}
-use Rattle.source_execution.specs.roopl_semantics.Run.{Run, Done, Fault, More}
-use Rattle.source_execution.specs.roopl_semantics.Store.{State}
-use Rattle.source_execution.specs.roopl_semantics.Execution.{Setting, exec}
-use Rattle.source_execution.specs.roopl_semantics.Source.{main_body, starting}
-use Rattle.source_execution.specs.meaning_points.Points.{Point, points}
-use Rattle.source_execution.specs.meaning_points.Trail.{Trail, trail}
-use Rattle.source_execution.proofs.meaning_points_laws.Growing.{points_added, points_done, points_fault}
-use Rattle.pisa_scripts.specs.declared.command.Command.{Command}
-use Rattle.pisa_scripts.specs.declared.command.Command.TheVariants.{Step, Back, To, BackTo, Regs, Cells}
+use Rattle.source_courses.specs.rpp_words.declared.input.FieldWord.{FieldWord}
+use Rattle.source_courses.specs.rpp_words.declared.input.Limits.{Limits}
+use Rattle.source_courses.specs.rpp_tree.Tree.{Source}
+use Rattle.source_courses.specs.roopl_semantics.Run.{Run, Done, Fault, More}
+use Rattle.source_courses.specs.roopl_semantics.Store.{State}
+use Rattle.source_courses.specs.roopl_semantics.Execution.{Setting, exec}
+use Rattle.source_courses.specs.roopl_semantics.Source.{main_body, starting}
+use Rattle.source_lines.specs.meaning_points.Points.{Point, points}
+use Rattle.source_lines.specs.meaning_points.Trail.{Trail, trail}
+use Rattle.source_courses.proofs.meaning_points_laws.Growing.{points_added, points_done, points_fault}
+use Rattle.source_courses.specs.pisa_scripts.declared.command.Command.{Command}
+use Rattle.source_courses.specs.pisa_scripts.declared.command.Command.TheVariants.{Step, Back, To, BackTo, Regs, Cells}
 use Rattle.source_courses.specs.declared.moves.TheConstants.{LAST_POSITION}
 use Rattle.source_courses.specs.declared.moves.Walk.{Walk}
 use Rattle.source_courses.specs.declared.moves.Ending.TheVariants.{Made}

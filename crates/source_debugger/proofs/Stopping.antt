@@ -1,14 +1,14 @@
 -- What fails, as it is reported.
 use Rattle.std.proofs.Common.{◌≡◌, ◌∙◌, sym, ap, subst, ℕ, List, Bool, true, false, Some, None, if◌then◌else◌}
 use Rattle.std.specs.Prelude.{Option, Result, Ok, Err, IfOk}
-use Rattle.source_execution.specs.rpp_words.declared.input.FieldWord.{FieldWord}
-use Rattle.source_execution.specs.rpp_words.declared.input.Limits.{Limits}
-use Rattle.source_execution.specs.rpp_tree.Tree.{Source}
-use Rattle.source_execution.specs.roopl_semantics.Execution.{Setting}
-use Rattle.source_execution.specs.meaning_machine.SourceLaws.{set_for}
-use Rattle.source_execution.specs.declared.falling.Failing.{Failing}
-use Rattle.source_execution.specs.Standing.{config_at, setting_at}
-use Rattle.source_execution.specs.Falls.{IsFailing, IsFailingOf, failing_of}
+use Rattle.source_courses.specs.rpp_words.declared.input.FieldWord.{FieldWord}
+use Rattle.source_courses.specs.rpp_words.declared.input.Limits.{Limits}
+use Rattle.source_courses.specs.rpp_tree.Tree.{Source}
+use Rattle.source_courses.specs.roopl_semantics.Execution.{Setting}
+use Rattle.source_courses.specs.meaning_machine.SourceLaws.{set_for}
+use Rattle.source_courses.specs.source_execution.declared.falling.Failing.{Failing}
+use Rattle.source_courses.specs.source_execution.Standing.{config_at, setting_at}
+use Rattle.source_courses.specs.source_execution.Falls.{IsFailing, IsFailingOf, failing_of}
 use Rattle.source_courses.specs.declared.moves.Walk.{Walk}
 use Rattle.source_debugger.specs.Failures.{Show, Account, failure, failure_at, failure_by, fails_at, is_fault}
 use Rattle.source_debugger.specs.Failures.{stops_with_fault}

@@ -1,12 +1,12 @@
 -- Laws of what commands print.
 use Rattle.std.specs.Prelude.{◌≡◌, ◌≤◌, ℕ, List, Some}
-use Rattle.source_execution.specs.rpp_words.declared.input.FieldWord.{FieldWord}
-use Rattle.source_execution.specs.rpp_words.declared.input.Limits.{Limits}
-use Rattle.source_execution.specs.rpp_tree.Tree.{Source}
-use Rattle.source_execution.specs.roopl_semantics.Store.{State}
-use Rattle.source_execution.specs.roopl_semantics.Source.{GivesDone}
-use Rattle.source_execution.specs.meaning_points.Trail.{trail}
-use Rattle.pisa_scripts.specs.declared.command.Command.{Command}
+use Rattle.source_courses.specs.rpp_words.declared.input.FieldWord.{FieldWord}
+use Rattle.source_courses.specs.rpp_words.declared.input.Limits.{Limits}
+use Rattle.source_courses.specs.rpp_tree.Tree.{Source}
+use Rattle.source_courses.specs.roopl_semantics.Store.{State}
+use Rattle.source_courses.specs.roopl_semantics.Source.{GivesDone}
+use Rattle.source_lines.specs.meaning_points.Trail.{trail}
+use Rattle.source_courses.specs.pisa_scripts.declared.command.Command.{Command}
 use Rattle.source_courses.specs.Walks.{AtEnd, stand_at}
 use Rattle.source_debugger.specs.Shown.{Told, told}
 

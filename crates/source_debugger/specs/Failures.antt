@@ -2,24 +2,24 @@
 use Rattle.std.specs.Prelude.{ℕ, Bool, true, false, List, [], ◌++◌, codes}
 use Rattle.std.specs.Prelude.{if◌then◌else◌, Option, Some, None}
 use Rattle.std.specs.Fmt.{decimal}
-use Rattle.source_execution.specs.rpp_words.Texts.{line_end}
-use Rattle.source_execution.specs.rpp_words.declared.input.FieldWord.{FieldWord}
-use Rattle.source_execution.specs.rpp_words.declared.input.Limits.{Limits}
-use Rattle.pisa_scripts.specs.Stops.{fault_line}
-use Rattle.source_execution.specs.rpp_tree.Tree.{Source}
-use Rattle.source_execution.specs.rpp_tree.Views.{source_of}
-use Rattle.source_execution.specs.roopl_semantics.Run.{Run, Done, Fault, More}
-use Rattle.source_execution.specs.roopl_semantics.Report.{Text, head_shown}
-use Rattle.source_execution.specs.roopl_semantics.Execution.{Setting}
-use Rattle.source_execution.specs.meaning_points.Trail.{Trail, trail}
-use Rattle.source_execution.specs.meaning_machine.Machine.{Config, next}
-use Rattle.source_execution.specs.meaning_machine.SourceLaws.{set_for, start_config}
-use Rattle.source_execution.specs.source_checks.source_compared.Comparisons.{Compared, Truth}
-use Rattle.source_execution.specs.source_checks.source_compared.Comparisons.{Values, Below, Missing}
-use Rattle.source_execution.specs.source_checks.source_compared.Comparisons.{Count, Length, Size}
-use Rattle.source_execution.specs.source_checks.source_compared.Comparisons.{Heads, Nothing}
-use Rattle.source_execution.specs.source_checks.Failures.{Tested, tested, failing}
-use Rattle.source_execution.specs.source_checks.Failures.{MOST_STEPS}
+use Rattle.source_courses.specs.rpp_words.Texts.{line_end}
+use Rattle.source_courses.specs.rpp_words.declared.input.FieldWord.{FieldWord}
+use Rattle.source_courses.specs.rpp_words.declared.input.Limits.{Limits}
+use Rattle.source_courses.specs.pisa_scripts.Stops.{fault_line}
+use Rattle.source_courses.specs.rpp_tree.Tree.{Source}
+use Rattle.source_courses.specs.rpp_tree.Views.{source_of}
+use Rattle.source_courses.specs.roopl_semantics.Run.{Run, Done, Fault, More}
+use Rattle.source_courses.specs.roopl_semantics.Report.{Text, head_shown}
+use Rattle.source_courses.specs.roopl_semantics.Execution.{Setting}
+use Rattle.source_lines.specs.meaning_points.Trail.{Trail, trail}
+use Rattle.source_courses.specs.meaning_machine.Machine.{Config, next}
+use Rattle.source_courses.specs.meaning_machine.SourceLaws.{set_for, start_config}
+use Rattle.source_courses.specs.source_compared.Comparisons.{Compared, Truth}
+use Rattle.source_courses.specs.source_compared.Comparisons.{Values, Below, Missing}
+use Rattle.source_courses.specs.source_compared.Comparisons.{Count, Length, Size}
+use Rattle.source_courses.specs.source_compared.Comparisons.{Heads, Nothing}
+use Rattle.source_courses.specs.source_checks.Failures.{Tested, tested, failing}
+use Rattle.source_courses.specs.source_checks.Failures.{MOST_STEPS}
 use Rattle.source_debugger.specs.declared.failing.Detail.{Detail}
 use Rattle.source_debugger.specs.declared.failing.Detail.TheVariants.{Test, Cells}
 use Rattle.source_courses.specs.declared.moves.Walk.{Walk}

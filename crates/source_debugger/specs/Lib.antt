@@ -1,7 +1,15 @@
-pub use Rattle.source_execution.specs.meaning_points
+pub use Rattle.source_lines.specs.meaning_points
 pub use Rattle.source_courses.specs.Watched
 pub use Rattle.source_courses.specs.Walks
 pub use Rattle.source_courses.specs as source_courses
+pub use Rattle.source_courses.specs.source_execution
+pub use Rattle.source_courses.specs.rpp_words
+pub use Rattle.source_courses.specs.rpp_tree
+pub use Rattle.source_courses.specs.roopl_semantics
+pub use Rattle.source_courses.specs.meaning_machine
+pub use Rattle.source_lines.specs.buddy_book
+pub use Rattle.source_courses.specs.source_store
+pub use Rattle.source_lines.specs.source_steps
 pub mod Named
 pub mod Looks
 pub mod Shown

@@ -1,7 +1,7 @@
 -- Variables as the debugger prints them.
 use Rattle.std.specs.Prelude.{ℕ, nat_lt, if◌then◌else◌, List, [], ◌∷◌, ◌++◌, length}
-use Rattle.source_execution.specs.roopl_semantics.Store.{Binding}
-use Rattle.source_execution.specs.roopl_semantics.Report.{Text}
+use Rattle.source_courses.specs.roopl_semantics.Store.{Binding}
+use Rattle.source_courses.specs.roopl_semantics.Report.{Text}
 use Rattle.source_lines.specs.Named.{name_line}
 
 -- a variable; the one that a call on an element means has no name, and no line

@@ -1,17 +1,17 @@
 -- What commands print along a run, and where they lead.
 use Rattle.std.specs.Prelude.{ℕ, List, [], ◌∷◌, ◌++◌, codes, Option, Some, None}
 use Rattle.std.specs.Fmt.{decimal}
-use Rattle.source_execution.specs.rpp_words.Texts.{line_end}
-use Rattle.pisa_scripts.specs.Stops.{fault_line}
-use Rattle.source_execution.specs.rpp_tree.Tree.{Source}
-use Rattle.source_execution.specs.class_rules.Classes.{class_fields}
-use Rattle.source_execution.specs.roopl_semantics.Store.{State, object_at}
-use Rattle.source_execution.specs.roopl_semantics.Value.{own_class}
-use Rattle.source_execution.specs.roopl_semantics.Report.{Text}
-use Rattle.source_execution.specs.meaning_points.Trail.{Trail}
-use Rattle.pisa_scripts.specs.declared.command.Command.{Command}
-use Rattle.pisa_scripts.specs.declared.command.Command.TheVariants.{Step, Back, To, BackTo}
-use Rattle.pisa_scripts.specs.declared.command.Command.TheVariants.{Regs, Cells}
+use Rattle.source_courses.specs.rpp_words.Texts.{line_end}
+use Rattle.source_courses.specs.pisa_scripts.Stops.{fault_line}
+use Rattle.source_courses.specs.rpp_tree.Tree.{Source}
+use Rattle.source_courses.specs.class_rules.Classes.{class_fields}
+use Rattle.source_courses.specs.roopl_semantics.Store.{State, object_at}
+use Rattle.source_courses.specs.roopl_semantics.Value.{own_class}
+use Rattle.source_courses.specs.roopl_semantics.Report.{Text}
+use Rattle.source_lines.specs.meaning_points.Trail.{Trail}
+use Rattle.source_courses.specs.pisa_scripts.declared.command.Command.{Command}
+use Rattle.source_courses.specs.pisa_scripts.declared.command.Command.TheVariants.{Step, Back, To, BackTo}
+use Rattle.source_courses.specs.pisa_scripts.declared.command.Command.TheVariants.{Regs, Cells}
 use Rattle.source_courses.specs.declared.moves.Walk.{Walk}
 use Rattle.source_courses.specs.declared.moves.Ending.{Ending}
 use Rattle.source_courses.specs.declared.moves.Ending.TheVariants.{Made, Start, Faulted}

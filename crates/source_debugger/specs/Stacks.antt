@@ -2,20 +2,20 @@
 use Rattle.std.specs.Prelude.{◌≡◌, ◌⊎◌, ℕ, List, [], ◌∷◌, ◌++◌, length, codes, Option, Some, None}
 use Rattle.std.specs.Prelude.{option_map}
 use Rattle.std.specs.Fmt.{decimal}
-use Rattle.source_execution.specs.rpp_words.Texts.{line_end}
-use Rattle.source_execution.specs.rpp_words.declared.input.FieldWord.{FieldWord}
-use Rattle.source_execution.specs.rpp_words.declared.input.Limits.{Limits}
-use Rattle.pisa_scripts.specs.Words.{direction}
-use Rattle.source_execution.specs.rpp_tree.Tree.{Source}
-use Rattle.source_execution.specs.roopl_semantics.Run.{Done}
-use Rattle.source_execution.specs.roopl_semantics.Report.{Text}
-use Rattle.source_execution.specs.meaning_machine.Machine.{Config, walk, seen}
-use Rattle.source_execution.specs.meaning_machine.SourceLaws.{set_for, start_config}
-use Rattle.source_execution.specs.class_rules.Classes.{class_fields}
-use Rattle.source_execution.specs.roopl_semantics.Store.{class_of_head, object_at}
-use Rattle.source_execution.specs.Calls.{Active, active_calls, CallState}
-use Rattle.source_execution.specs.Calls.{inside_call}
-use Rattle.source_execution.specs.Standing.{IsOver, next_place}
+use Rattle.source_courses.specs.rpp_words.Texts.{line_end}
+use Rattle.source_courses.specs.rpp_words.declared.input.FieldWord.{FieldWord}
+use Rattle.source_courses.specs.rpp_words.declared.input.Limits.{Limits}
+use Rattle.source_courses.specs.pisa_scripts.Words.{direction}
+use Rattle.source_courses.specs.rpp_tree.Tree.{Source}
+use Rattle.source_courses.specs.roopl_semantics.Run.{Done}
+use Rattle.source_courses.specs.roopl_semantics.Report.{Text}
+use Rattle.source_courses.specs.meaning_machine.Machine.{Config, walk, seen}
+use Rattle.source_courses.specs.meaning_machine.SourceLaws.{set_for, start_config}
+use Rattle.source_courses.specs.class_rules.Classes.{class_fields}
+use Rattle.source_courses.specs.roopl_semantics.Store.{class_of_head, object_at}
+use Rattle.source_courses.specs.source_execution.Calls.{Active, active_calls, CallState}
+use Rattle.source_courses.specs.source_execution.Calls.{inside_call}
+use Rattle.source_courses.specs.source_execution.Standing.{IsOver, next_place}
 use Rattle.source_lines.specs.Named.{fields_named}
 use Rattle.source_debugger.specs.Named.{frame_named}
 

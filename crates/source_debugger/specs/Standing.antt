@@ -1,12 +1,12 @@
 -- A debugger as contracts see it.
 use Rattle.std.specs.Prelude.{◌≡◌, ℕ, List, Some, take}
-use Rattle.source_execution.specs.rpp_words.declared.input.FieldWord.{FieldWord}
-use Rattle.source_execution.specs.rpp_words.declared.input.Limits.{Limits}
-use Rattle.source_execution.specs.rpp_tree.declared.tree.Program.{Program}
-use Rattle.source_execution.specs.rpp_tree.Views.{source_of}
-use Rattle.source_execution.specs.roopl_semantics.Report.{Text}
-use Rattle.source_execution.specs.meaning_points.Trail.{Trail, trail}
-use Rattle.pisa_scripts.specs.declared.command.Command.{Command}
+use Rattle.source_courses.specs.rpp_words.declared.input.FieldWord.{FieldWord}
+use Rattle.source_courses.specs.rpp_words.declared.input.Limits.{Limits}
+use Rattle.source_courses.specs.rpp_tree.declared.tree.Program.{Program}
+use Rattle.source_courses.specs.rpp_tree.Views.{source_of}
+use Rattle.source_courses.specs.roopl_semantics.Report.{Text}
+use Rattle.source_lines.specs.meaning_points.Trail.{Trail, trail}
+use Rattle.source_courses.specs.pisa_scripts.declared.command.Command.{Command}
 use Rattle.source_courses.specs.declared.running.TheConstants.{MOST_COST}
 use Rattle.source_debugger.specs.Shown.{told}
 pub use Rattle.source_courses.specs.Valid.{IsValidRun}

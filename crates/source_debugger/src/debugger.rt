@@ -1,8 +1,8 @@
 // Debuggers of the source.
 ghost use Rattle.std.specs.Prelude.{◌≡◌, ◌≤◌, ◌++◌, ◌∷◌, [], List, ℕ, Some, IfOk, OnOk, OnErr, option_map, string_bytes};
-ghost use Rattle.source_execution.specs.rpp_tree.Views.{source_of};
-ghost use Rattle.source_execution.specs.meaning_points.Trail.{trail};
-ghost use Rattle.source_execution.specs.rpp_words.Limits.{IsLimits};
+ghost use Rattle.source_courses.specs.rpp_tree.Views.{source_of};
+ghost use Rattle.source_lines.specs.meaning_points.Trail.{trail};
+ghost use Rattle.source_courses.specs.rpp_words.Limits.{IsLimits};
 ghost use Rattle.source_courses.specs.declared.running.TheConstants.{MOST_COST};
 ghost use Rattle.source_courses.specs.declared.moves.TheConstants.{LAST_POSITION};
 ghost use Rattle.source_debugger.specs.Shown.{told_by, walked_trail};
@@ -17,11 +17,10 @@ use crate::failing::{Detail, tell_failure};
 use crate::looking::{Seen, look_at};
 use crate::shown::{cells_text, regs_text, walk_text};
 use crate::stacks::{tell_call, tell_stack};
-use class_table::Checked;
-use pisa_scripts::Command;
-use rpp_words::{Input, Limits, NoMemory};
-use source_courses::{Course, Run, Walk, backward, begin, forward};
-use source_store::Lack;
+use source_courses::{
+    Command, Course, Input, Limits, NoMemory, Run, Walk, backward, begin, forward,
+};
+use source_lines::{Checked, Lack};
 use std::alloc::Global;
 use std::marker::Model;
 
@@ -37,11 +36,11 @@ pub struct SourceDebugger<'a> {
 }
 
 impl<'a> Model for SourceDebugger<'a> {
-    ghost use Rattle.source_execution.specs.rpp_tree.contracts.tree.Stmt as stmt;
-    ghost use Rattle.source_execution.specs.rpp_tree.contracts.tree.Expr as expr;
+    ghost use Rattle.source_courses.specs.rpp_tree.contracts.tree.Stmt as stmt;
+    ghost use Rattle.source_courses.specs.rpp_tree.contracts.tree.Expr as expr;
     ghost use Rattle.std.specs.Coded.{codes};
     ghost use Rattle.std.specs.Prelude.{◌≤◌};
-    ghost use Rattle.source_execution.specs.rpp_tree.Views.{source_of};
+    ghost use Rattle.source_courses.specs.rpp_tree.Views.{source_of};
     ghost use Rattle.source_courses.specs.declared.moves.TheConstants.{LAST_POSITION};
     ghost use Rattle.source_debugger.specs.Standing.{Standing, IsValidRun};
     ghost use Rattle.source_courses.specs.Courses.{Holds};

@@ -1,13 +1,13 @@
 // What fails where a run stops with a fault.
 ghost use Rattle.std.specs.Prelude.{◌≡◌, ◌+◌, ◌≤◌, ◌++◌, false, IfOk, OnOk, option_map, string_bytes, codes, if◌then◌else◌};
 ghost use Rattle.std.specs.Fmt.{decimal};
-ghost use Rattle.source_execution.specs.rpp_tree.Views.{source_of};
-ghost use Rattle.source_execution.specs.rpp_words.Texts.{line_end};
-ghost use Rattle.source_execution.specs.roopl_semantics.Report.{head_shown};
-ghost use Rattle.source_execution.specs.source_store.ValueView.{value_of, kept_head};
-ghost use Rattle.source_execution.specs.Standing.{config_at, setting_at};
-ghost use Rattle.source_execution.specs.source_checks.source_compared.ComparedView.{compared_of};
-ghost use Rattle.source_execution.specs.source_checks.TestedView.{tested_of};
+ghost use Rattle.source_courses.specs.rpp_tree.Views.{source_of};
+ghost use Rattle.source_courses.specs.rpp_words.Texts.{line_end};
+ghost use Rattle.source_courses.specs.roopl_semantics.Report.{head_shown};
+ghost use Rattle.source_courses.specs.source_store.ValueView.{value_of, kept_head};
+ghost use Rattle.source_courses.specs.source_execution.Standing.{config_at, setting_at};
+ghost use Rattle.source_courses.specs.source_compared.ComparedView.{compared_of};
+ghost use Rattle.source_courses.specs.source_checks.TestedView.{tested_of};
 ghost use Rattle.source_courses.specs.Courses.{Holds};
 ghost use Rattle.source_debugger.specs.Standing.{IsValidRun};
 ghost use Rattle.source_courses.specs.declared.running.TheConstants.{MOST_COST};
@@ -16,14 +16,11 @@ ghost use Rattle.source_lines.specs.Named.{value_named};
 ghost use Rattle.source_debugger.specs.Failures.{found_wanted, compared_lines, test_lines, failure_lines as failure_lines_of, failure, shown_of, account, fails_at, is_fault as is_fault_in};
 
 use crate::shown::add_state;
-use class_table::Checked;
-use pisa_isa::Stop as End;
-use pisa_scripts::add_stop;
-use rpp_words::NoMemory;
-use source_courses::{Course, Ending, Run, forward};
-use source_execution::{Compared, Execution, Tested, find_failing};
-use source_lines::{add_head, add_value, objects_text};
-use source_store::{Head, Lack, Value};
+use source_courses::{
+    Compared, Course, Ending, Execution, NoMemory, Run, Stop as End, Tested, add_stop,
+    find_failing, forward,
+};
+use source_lines::{Checked, Head, Lack, Value, add_head, add_value, objects_text};
 use std::alloc::{AllocError, Global};
 
 /// What is printed of a step that fails.

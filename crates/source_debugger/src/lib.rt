@@ -16,4 +16,5 @@ mod stacks;
 pub use debugger::SourceDebugger;
 pub use failing::Detail;
 pub use looking::Seen;
-pub use source_courses::LAST_POSITION;
+pub use source_courses::{Execution, Input, LAST_POSITION, Limits, NoMemory};
+pub use source_lines::{Checked, Head, Heap, Lack, Stop, Value};

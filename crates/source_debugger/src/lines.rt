@@ -1,11 +1,10 @@
 // The lines of variables.
 ghost use Rattle.std.specs.Prelude.{◌≡◌, ◌++◌, OnOk, string_bytes, map};
-ghost use Rattle.source_execution.specs.Variables.{binding_of};
+ghost use Rattle.source_courses.specs.source_execution.Variables.{binding_of};
 ghost use Rattle.source_debugger.specs.Named.{variable_line, params_named, frame_named};
 
-use source_execution::Variable;
-use source_lines::add_name_line;
-use source_store::Lack;
+use source_courses::Variable;
+use source_lines::{Lack, add_name_line};
 
 // The line of a variable; one with no name has none.
 fn add_variable(out: &mut String, variable: &Variable) -> Result<(), Lack>

@@ -1,8 +1,8 @@
 // What is at a position.
 ghost use Rattle.std.specs.Prelude.{◌≡◌, Some, IfOk};
-ghost use Rattle.source_execution.specs.rpp_tree.Views.{source_of};
-ghost use Rattle.source_execution.specs.meaning_points.Trail.{trail};
-ghost use Rattle.source_execution.specs.source_store.HeapView.{Kept};
+ghost use Rattle.source_courses.specs.rpp_tree.Views.{source_of};
+ghost use Rattle.source_lines.specs.meaning_points.Trail.{trail};
+ghost use Rattle.source_courses.specs.source_store.HeapView.{Kept};
 ghost use Rattle.source_courses.specs.declared.running.TheConstants.{MOST_COST};
 ghost use Rattle.source_courses.specs.Walks.{stand_at};
 ghost use Rattle.source_debugger.specs.Standing.{IsValidRun};
@@ -10,8 +10,7 @@ ghost use Rattle.source_courses.specs.Courses.{Holds};
 ghost use Rattle.source_courses.specs.Placed.{stand_of};
 ghost use Rattle.source_debugger.specs.Looks.{seen_of};
 
-use rpp_words::NoMemory;
-use source_courses::{Course, Place, Run, place_at};
+use source_courses::{Course, NoMemory, Place, Run, place_at};
 
 /// What is at a position.
 #[derive(Clone, Copy, PartialEq, Eq, Debug)]

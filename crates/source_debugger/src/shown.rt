@@ -1,29 +1,24 @@
 // What commands print at a position.
 ghost use Rattle.std.specs.Prelude.{◌≡◌, ◌++◌, [], Some, map, IfOk, OnOk, string_bytes};
-ghost use Rattle.source_execution.specs.rpp_tree.Views.{source_of};
-ghost use Rattle.source_execution.specs.meaning_points.Trail.{trail};
+ghost use Rattle.source_courses.specs.rpp_tree.Views.{source_of};
+ghost use Rattle.source_lines.specs.meaning_points.Trail.{trail};
 ghost use Rattle.source_courses.specs.declared.running.TheConstants.{MOST_COST};
 ghost use Rattle.source_courses.specs.Walks.{stand_at};
 ghost use Rattle.source_debugger.specs.Shown.{source_ending_shown, line_at, regs_at, cells_shown_at};
 ghost use Rattle.source_lines.specs.Named.{fields_named};
 ghost use Rattle.source_debugger.specs.Named.{frame_named};
-ghost use Rattle.source_execution.specs.class_rules.Classes.{class_fields};
-ghost use Rattle.source_execution.specs.roopl_semantics.Store.{class_of_head, object_at};
-ghost use Rattle.source_execution.specs.source_store.ValueView.{values_of};
-ghost use Rattle.source_execution.specs.Variables.{binding_of};
+ghost use Rattle.source_courses.specs.class_rules.Classes.{class_fields};
+ghost use Rattle.source_courses.specs.roopl_semantics.Store.{class_of_head, object_at};
+ghost use Rattle.source_courses.specs.source_store.ValueView.{values_of};
+ghost use Rattle.source_courses.specs.source_execution.Variables.{binding_of};
 ghost use Rattle.source_debugger.specs.Standing.{IsValidRun};
-ghost use Rattle.source_execution.specs.source_store.HeapView.{Kept};
+ghost use Rattle.source_courses.specs.source_store.HeapView.{Kept};
 ghost use Rattle.source_courses.specs.Courses.{Holds};
 ghost use Rattle.source_courses.specs.Placed.{stand_of};
 
 use crate::lines::add_frame;
-use class_table::Checked;
-use pisa_isa::Stop;
-use pisa_scripts::add_stop;
-use source_courses::{Course, Ending, Place, Run, Walk, place_at};
-use source_execution::Variable;
-use source_lines::{add_class_fields, objects_text};
-use source_store::{Heap, Lack, Value};
+use source_courses::{Course, Ending, Place, Run, Stop, Variable, Walk, add_stop, place_at};
+use source_lines::{Checked, Heap, Lack, Value, add_class_fields, objects_text};
 use std::alloc::{AllocError, Global};
 
 // The space for a text of a few lines.

@@ -1,19 +1,16 @@
 // The active calls at a position.
 ghost use Rattle.std.specs.Prelude.{◌≡◌, ◌++◌, false, map, option_map, IsTrue, IfOk, OnOk, string_bytes};
-ghost use Rattle.source_execution.specs.rpp_tree.Views.{source_of};
-ghost use Rattle.source_execution.specs.meaning_machine.Machine.{Config};
-ghost use Rattle.source_execution.specs.CallsView.{active_of, inside_of};
-ghost use Rattle.source_execution.specs.Standing.{config_at, setting_at};
+ghost use Rattle.source_courses.specs.rpp_tree.Views.{source_of};
+ghost use Rattle.source_courses.specs.meaning_machine.Machine.{Config};
+ghost use Rattle.source_courses.specs.source_execution.CallsView.{active_of, inside_of};
+ghost use Rattle.source_courses.specs.source_execution.Standing.{config_at, setting_at};
 ghost use Rattle.source_courses.specs.Courses.{Holds};
 ghost use Rattle.source_debugger.specs.Standing.{IsValidRun};
 ghost use Rattle.source_debugger.specs.Stacks.{IsPosition, IsThere, call_line, call_lines, TellsStack, inside_named, TellsCall};
 
 use crate::shown::add_state;
-use class_table::Checked;
-use rpp_words::NoMemory;
-use source_courses::{Course, Run, place_at};
-use source_execution::{Active, CallState, Execution};
-use source_store::{Heap, Lack};
+use source_courses::{Active, CallState, Course, Execution, NoMemory, Run, place_at};
+use source_lines::{Checked, Heap, Lack};
 use std::alloc::{AllocError, Global};
 
 // The line of a call.

@@ -1,8 +1,8 @@
 -- What an evaluation compares that meets a fault.
 use Rattle.std.proofs.Common.{◌≡◌, ◌∙◌, refl, sym, ap, subst, ℕ, Bool, true, false, List, length, if◌then◌else◌}
 use Rattle.std.specs.Prelude.{Result, Ok, Err, nat_lt}
-use Rattle.rpp_tree.specs.declared.tree.BinOp.{BinOp}
-use Rattle.rpp_tree.specs.Tree.{Source, Expression, Number, Null, Variable, Element, Binary}
+use Rattle.source_statements.specs.rpp_tree.declared.tree.BinOp.{BinOp}
+use Rattle.source_statements.specs.rpp_tree.Tree.{Source, Expression, Number, Null, Variable, Element, Binary}
 use Rattle.source_checks.specs.roopl_semantics.Store.{State, Value, Word, Nil, Name, object_at, number_of}
 use Rattle.source_checks.specs.roopl_semantics.Value.{Cell, Part, value, read_cell, element_cell, element_of, combined}
 use Rattle.source_checks.specs.roopl_semantics.Value.{variable_value, INDEX}

@@ -3,7 +3,7 @@ use Rattle.std.proofs.Common.{◌≡◌, ℕ, zero, suc, ◌+◌, ◌-◌, ◌<�
 use Rattle.std.specs.Prelude.{Option}
 use Rattle.source_checks.specs.rpp_words.declared.input.FieldWord.{FieldWord}
 use Rattle.source_checks.specs.rpp_words.declared.input.Limits.{Limits}
-use Rattle.rpp_tree.specs.Tree.{Source}
+use Rattle.source_statements.specs.rpp_tree.Tree.{Source}
 use Rattle.source_checks.specs.roopl_semantics.Run.{Run, Done, Fault, More, ◌>>=◌, after_cost}
 use Rattle.source_checks.specs.roopl_semantics.Execution.{Setting}
 use Rattle.source_checks.specs.meaning_machine.Machine.{Config, next, walk, stepped, closing}

@@ -4,8 +4,8 @@ use Rattle.std.proofs.Common.{reverse}
 use Rattle.std.proofs.Common.{length}
 use Rattle.std.specs.Prelude.{Result, Ok, Err, IfOk, IsTrue, true, false}
 use Rattle.source_checks.specs.rpp_words.declared.input.FieldWord.{FieldWord}
-use Rattle.rpp_tree.specs.declared.tree.Var.{Var}
-use Rattle.rpp_tree.specs.Tree.{Source, Statements, Statement, End, Then}
+use Rattle.source_statements.specs.rpp_tree.declared.tree.Var.{Var}
+use Rattle.source_statements.specs.rpp_tree.Tree.{Source, Statements, Statement, End, Then}
 use Rattle.source_checks.specs.class_rules.declared.method.MethodId.{MethodId}
 use Rattle.source_checks.specs.class_rules.Table.{Table, table_of, fields_in}
 use Rattle.source_checks.specs.class_rules.Classes.{class_fields, main_of}

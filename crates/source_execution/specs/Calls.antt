@@ -1,8 +1,8 @@
 -- The active calls at a position.
 use Rattle.std.specs.Prelude.{ℕ, nat_eq, Bool, true, false, List, [], ◌∷◌, ◌++◌, reverse}
 use Rattle.std.specs.Prelude.{if◌then◌else◌, Option, Some, None}
-use Rattle.rpp_tree.specs.Tree.{Statement, Call}
-use Rattle.rpp_tree.specs.Places.{statement_place}
+use Rattle.source_statements.specs.rpp_tree.Tree.{Statement, Call}
+use Rattle.source_statements.specs.rpp_tree.Places.{statement_place}
 use Rattle.source_checks.specs.roopl_semantics.Store.{Binding}
 use Rattle.source_checks.specs.meaning_machine.Machine.{Caller, Config, Open, OpenPart, Calling}
 use Rattle.source_execution.specs.Standing.{next_place}

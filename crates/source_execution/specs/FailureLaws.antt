@@ -3,7 +3,7 @@
 use Rattle.std.specs.Prelude.{◌≡◌, ℕ, Bool, true, false, nat_lt, List, Some, Result, Ok, Err}
 use Rattle.source_checks.specs.rpp_words.declared.input.FieldWord.{FieldWord}
 use Rattle.source_checks.specs.rpp_words.declared.input.Limits.{Limits}
-use Rattle.rpp_tree.specs.Tree.{Source as Program}
+use Rattle.source_statements.specs.rpp_tree.Tree.{Source as Program}
 use Rattle.source_checks.specs.roopl_semantics.Run.{Fault}
 use Rattle.source_checks.specs.roopl_semantics.Store.{Value, number_of}
 use Rattle.source_checks.specs.roopl_semantics.Value.{NIL, INDEX}

@@ -3,7 +3,7 @@ use Rattle.std.specs.Prelude.{◌≡◌, ℕ, false, List, Some, None}
 use Rattle.std.specs.declared.option.Option.{Option}
 use Rattle.source_checks.specs.rpp_words.declared.input.FieldWord.{FieldWord}
 use Rattle.source_checks.specs.rpp_words.declared.input.Limits.{Limits}
-use Rattle.rpp_tree.specs.Tree.{Source}
+use Rattle.source_statements.specs.rpp_tree.Tree.{Source}
 use Rattle.source_checks.specs.roopl_semantics.Run.{Fault}
 use Rattle.source_checks.specs.meaning_machine.Machine.{Config, next}
 use Rattle.source_checks.specs.meaning_machine.SourceLaws.{set_for, start_config}

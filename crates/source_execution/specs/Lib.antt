@@ -1,5 +1,5 @@
 pub use Rattle.source_checks.specs.rpp_words
-pub use Rattle.rpp_tree.specs as rpp_tree
+pub use Rattle.source_statements.specs.rpp_tree
 pub use Rattle.source_checks.specs.class_rules
 pub use Rattle.source_checks.specs.roopl_semantics
 pub use Rattle.source_checks.specs.meaning_points
@@ -8,6 +8,7 @@ pub use Rattle.source_checks.specs.source_store
 pub use Rattle.source_checks.specs.source_steps
 pub use Rattle.source_statements.specs as source_statements
 pub use Rattle.source_checks.specs as source_checks
+pub use Rattle.source_checks.specs.source_compared
 pub mod Standing
 pub mod Variables
 pub mod Falls

@@ -1,8 +1,8 @@
 -- A run as contracts see it.
 use Rattle.std.specs.Prelude.{◌≡◌, ℕ, Bool, List, [], ◌∷◌, Option, Some, None, Result}
 use Rattle.source_checks.specs.rpp_words.declared.input.FieldWord.{FieldWord}
-use Rattle.rpp_tree.specs.Tree.{Source, Statements, End, Then}
-use Rattle.rpp_tree.specs.Places.{statement_place}
+use Rattle.source_statements.specs.rpp_tree.Tree.{Source, Statements, End, Then}
+use Rattle.source_statements.specs.rpp_tree.Places.{statement_place}
 use Rattle.source_checks.specs.roopl_semantics.Store.{main_name}
 use Rattle.source_checks.specs.roopl_semantics.Source.{main_object}
 use Rattle.source_checks.specs.roopl_semantics.Execution.{Setting}

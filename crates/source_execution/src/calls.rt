@@ -1,6 +1,6 @@
 // The active calls.
 ghost use Rattle.std.specs.Prelude.{◌≡◌, ◌++◌, map, option_map, IfOk};
-ghost use Rattle.rpp_tree.specs.Views.{statement_of};
+ghost use Rattle.source_statements.specs.rpp_tree.Views.{statement_of};
 ghost use Rattle.source_checks.specs.source_steps.Ends.{turned};
 ghost use Rattle.source_checks.specs.source_blocks.Tasks.{statement_line};
 ghost use Rattle.source_checks.specs.source_blocks.Opens.{open_of, caller_of, IsOpen};
@@ -10,9 +10,8 @@ ghost use Rattle.source_execution.specs.CallsView.{active_of, inside_of};
 
 use crate::places::run_place;
 use crate::variables::{Variable, variables_in};
-use rpp_tree::tree::Stmt;
-use rpp_words::NoMemory;
-use source_checks::{Caller, Frame, Line, Part, Run, line_at, line_place};
+use source_checks::{Caller, Frame, Line, NoMemory, Part, Run, line_at, line_place};
+use source_statements::Stmt;
 use std::alloc::{AllocError, Global};
 
 /// An active call: the offset of the statement of it that runs, if one does, its object, how many

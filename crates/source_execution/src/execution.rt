@@ -1,7 +1,7 @@
 // A run of the source, as a layer above sees it.
 ghost use Rattle.std.specs.Prelude.{◌≡◌, ◌+◌, ◌*◌, ◌≤◌, ◌↔◌, IsTrue, false, IfOk, OnOk, length, map, slice_set, option_map, IfErr};
 ghost use Rattle.source_checks.specs.rpp_words.Limits.{IsLimits};
-ghost use Rattle.rpp_tree.specs.Views.{source_of};
+ghost use Rattle.source_statements.specs.rpp_tree.Views.{source_of};
 ghost use Rattle.source_checks.specs.roopl_semantics.Store.{Word};
 ghost use Rattle.source_checks.specs.roopl_semantics.Source.{with_input, main_body};
 ghost use Rattle.source_checks.specs.meaning_machine.Machine.{next};
@@ -22,12 +22,11 @@ ghost use Rattle.source_execution.specs.Standing.{IsOver, Walks, config_at, sett
 use crate::calls::{Active, CallState, calls_in, inside_in};
 use crate::places::run_place;
 use crate::variables::{Variable, variables_in};
-use class_table::Checked;
-use rpp_words::{FieldWord, Input, Limits, NoMemory};
-use source_checks::{Run, Task, Tested, line_at, line_place, test_next, turn};
-use source_statements::{method_at, step};
-use source_steps::{Setting, Stop, put_value, zeros};
-use source_store::{Head, Heap, Lack, Value};
+use source_checks::{
+    FieldWord, Head, Heap, Input, Lack, Limits, NoMemory, Run, Task, Tested, Value, line_at,
+    line_place, test_next, turn,
+};
+use source_statements::{Checked, Setting, Stop, method_at, put_value, step, zeros};
 use std::alloc::Global;
 use std::marker::Model;
 
@@ -98,8 +97,8 @@ pub struct Execution<'a> {
 }
 
 impl<'a> Model for Execution<'a> {
-    ghost use Rattle.rpp_tree.specs.contracts.tree.Stmt as stmt;
-    ghost use Rattle.rpp_tree.specs.contracts.tree.Expr as expr;
+    ghost use Rattle.source_statements.specs.rpp_tree.contracts.tree.Stmt as stmt;
+    ghost use Rattle.source_statements.specs.rpp_tree.contracts.tree.Expr as expr;
     ghost use Rattle.std.specs.Coded.{codes};
     ghost use Rattle.std.specs.Prelude.{◌≡◌, false};
     ghost use Rattle.source_execution.specs.Standing.{ExecutionStanding};

@@ -1,14 +1,12 @@
 // The step of a run that stops with a fault.
 ghost use Rattle.std.specs.Prelude.{◌≡◌, ◌+◌, ◌<◌, ◌^◌, IfOk};
 ghost use Rattle.source_checks.specs.rpp_words.Limits.{IsLimits};
-ghost use Rattle.rpp_tree.specs.Views.{source_of};
+ghost use Rattle.source_statements.specs.rpp_tree.Views.{source_of};
 ghost use Rattle.source_execution.specs.Falls.{IsFailingOf};
 
 use crate::execution::Execution;
-use class_table::Checked;
-use rpp_words::{Input, Limits};
-use source_steps::Stop;
-use source_store::Lack;
+use source_checks::{Input, Lack, Limits};
+use source_statements::{Checked, Stop};
 use std::alloc::Global;
 
 /// The highest cost of a run that is looked at.

@@ -2,8 +2,8 @@
 ghost use Rattle.std.specs.Prelude.{ℕ, List};
 ghost use Rattle.source_checks.specs.rpp_words.declared.input.FieldWord.{FieldWord};
 ghost use Rattle.source_checks.specs.rpp_words.declared.input.Limits.{Limits};
-ghost use Rattle.rpp_tree.specs.Tree.{Source};
-ghost use Rattle.rpp_tree.specs.Tree.{Expression};
+ghost use Rattle.source_statements.specs.rpp_tree.Tree.{Source};
+ghost use Rattle.source_statements.specs.rpp_tree.Tree.{Expression};
 ghost use Rattle.source_checks.specs.roopl_semantics.Store.{State};
 ghost use Rattle.source_checks.specs.roopl_semantics.Value.{value};
 ghost use Rattle.source_checks.specs.Checks.{failing_access};

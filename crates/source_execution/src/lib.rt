@@ -13,5 +13,8 @@ mod variables;
 pub use calls::{Active, CallState};
 pub use execution::{Execution, breaks};
 pub use falling::{Failing, find_failing};
-pub use source_checks::{Compared, Tested};
+pub use source_checks::{
+    Compared, Head, Heap, Input, Lack, Limits, NoMemory, Object, Tested, Value,
+};
+pub use source_statements::{Checked, Stop};
 pub use variables::Variable;

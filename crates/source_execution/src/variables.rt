@@ -4,10 +4,9 @@ ghost use Rattle.source_checks.specs.source_store.ValueView.{values_of};
 ghost use Rattle.source_checks.specs.source_steps.StateView.{bindings};
 ghost use Rattle.source_execution.specs.Variables.{binding_of};
 
-use rpp_tree::Text;
-use rpp_tree::tree::Var;
-use rpp_words::NoMemory;
-use source_store::Value;
+use source_checks::{NoMemory, Value};
+use source_statements::Text;
+use source_statements::tree::Var;
 use std::alloc::Global;
 
 /// A variable of an open method, with its value. The one that holds the element of a call on it has

@@ -1,6 +1,6 @@
 -- Names one after the other.
 use Rattle.std.proofs.Common.{◌≡◌, ℕ, suc, ◌+◌, ◌-◌, ◌<◌, sym, ap, ◌∙◌, arith, append_assoc, ◌++◌}
-use Rattle.rpp_tree.specs.Tree.{Source}
+use Rattle.source_steps.specs.rpp_tree.Tree.{Source}
 use Rattle.source_steps.specs.roopl_semantics.Store.{Store, object_named}
 use Rattle.source_steps.specs.roopl_semantics.Report.{Text}
 use Rattle.source_lines.specs.Named.{object_lines, objects_from}

@@ -2,8 +2,8 @@
 use Rattle.std.specs.Prelude.{ℕ, zero, suc, ◌+◌, List, [], ◌∷◌, ◌++◌, codes, Option, Some, None}
 use Rattle.std.specs.Fmt.{decimal}
 use Rattle.source_steps.specs.rpp_words.Texts.{line_end}
-use Rattle.rpp_tree.specs.declared.tree.Var.{Var}
-use Rattle.rpp_tree.specs.Tree.{Source}
+use Rattle.source_steps.specs.rpp_tree.declared.tree.Var.{Var}
+use Rattle.source_steps.specs.rpp_tree.Tree.{Source}
 use Rattle.source_steps.specs.class_rules.Classes.{class_fields}
 use Rattle.source_steps.specs.roopl_semantics.Store.{Value, Word, Nil, Name, Head, OfClass}
 use Rattle.source_steps.specs.roopl_semantics.Store.{OfInts, OfObjects}

@@ -5,4 +5,5 @@ mod objects;
 mod values;
 
 pub use objects::{add_head, objects_text};
+pub use source_steps::{Checked, Head, Heap, Lack, Stop, Value};
 pub use values::{add_class_fields, add_name_line, add_value};

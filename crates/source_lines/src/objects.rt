@@ -1,7 +1,7 @@
 // The lines of objects and arrays.
 ghost use Rattle.std.specs.Prelude.{◌≡◌, ◌++◌, IfOk, OnOk, string_bytes, codes};
 ghost use Rattle.std.specs.Fmt.{decimal};
-ghost use Rattle.rpp_tree.specs.Views.{source_of};
+ghost use Rattle.source_steps.specs.rpp_tree.Views.{source_of};
 ghost use Rattle.source_steps.specs.class_rules.Members.{class_at};
 ghost use Rattle.source_steps.specs.roopl_semantics.Store.{object_named};
 ghost use Rattle.source_steps.specs.roopl_semantics.Report.{head_shown, head_line};
@@ -9,9 +9,8 @@ ghost use Rattle.source_steps.specs.source_store.ValueView.{values_of, kept_head
 ghost use Rattle.source_lines.specs.Named.{cells_named, object_lines, objects_from};
 
 use crate::values::{add_bytes, add_class_fields, add_elements};
-use class_table::Checked;
-use rpp_tree::tree::Program;
-use source_store::{Head, Heap, Lack, Object, Value};
+use source_steps::tree::Program;
+use source_steps::{Checked, Head, Heap, Lack, Object, Value};
 use std::alloc::Global;
 
 // The lines of the cells of an object or array.

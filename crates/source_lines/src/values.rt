@@ -1,14 +1,13 @@
 // The lines of values, fields and elements.
 ghost use Rattle.std.specs.Prelude.{◌≡◌, ◌++◌, ◌∷◌, [], OnOk, string_bytes};
-ghost use Rattle.rpp_tree.specs.Views.{source_of};
+ghost use Rattle.source_steps.specs.rpp_tree.Views.{source_of};
 ghost use Rattle.source_steps.specs.class_rules.Classes.{class_fields};
 ghost use Rattle.source_steps.specs.roopl_semantics.Report.{signed_decimal};
 ghost use Rattle.source_steps.specs.source_store.ValueView.{value_of, values_of};
 ghost use Rattle.source_lines.specs.Named.{value_named, name_line, fields_named, elements_named};
 
-use class_table::Checked;
-use rpp_tree::tree::Var;
-use source_store::{Lack, Value};
+use source_steps::tree::Var;
+use source_steps::{Checked, Lack, Value};
 use std::alloc::AllocError;
 
 // A word in signed decimal.

@@ -9,6 +9,6 @@ mod store;
 mod whole;
 
 pub use outcome::Outcome;
-pub use source_store::Head;
+pub use source_execution::{Head, Heap, Input, Limits, Value};
 pub use store::{Object, Store};
 pub use whole::{MOST_OPEN, interpret};

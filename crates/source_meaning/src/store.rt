@@ -7,8 +7,7 @@ ghost use Rattle.source_execution.specs.roopl_semantics.Report.{live_count};
 ghost use Rattle.source_execution.specs.source_store.ValueView.{object_of, values_of};
 ghost use Rattle.source_meaning.specs.Numbers.{numbers_of, seen_object, AreNumbers};
 
-use rpp_words::NoMemory;
-use source_store::{Head, Heap, Value};
+use source_execution::{Head, Heap, NoMemory, Value};
 use std::alloc::Global;
 use std::marker::Model;
 
@@ -126,7 +125,7 @@ fn numbers(alloc: Global, values: &[Value]) -> Result<Vec<u32>, NoMemory>
 }
 
 // An object or array by its numbers.
-fn with_numbers(alloc: Global, object: &source_store::Object) -> Result<Object, NoMemory>
+fn with_numbers(alloc: Global, object: &source_execution::Object) -> Result<Object, NoMemory>
     ensures { IfOk result (λ shown. seen_object shown ≡ numbers_of (object_of object.now)) }
 {
     Ok(Object {

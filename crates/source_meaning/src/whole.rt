@@ -8,11 +8,7 @@ ghost use Rattle.source_meaning.specs.Outcomes.{IsOutcome, IsStop, StaysSo, IsUn
 
 use crate::outcome::Outcome;
 use crate::store::Store;
-use class_table::Checked;
-use rpp_words::{Input, Limits, NoMemory};
-use source_execution::Execution;
-use source_steps::Stop;
-use source_store::Heap;
+use source_execution::{Checked, Execution, Heap, Input, Limits, NoMemory, Stop};
 use std::alloc::Global;
 
 /// The most calls that `interpret` allows a run to have open.

@@ -1,7 +1,7 @@
 -- Requests to the heap that are undone.
 use Rattle.std.proofs.Common.{◌≡◌, refl, ap, ◌∙◌, true, false}
-use Rattle.rpp_tree.specs.Tree.{Statement, Statements, Update, Swap, If, From, Construct, Local, New, Delete, Copy}
-use Rattle.rpp_tree.specs.Tree.{Uncopy, Call, Skip}
+use Rattle.source_blocks.specs.rpp_tree.Tree.{Statement, Statements, Update, Swap, If, From, Construct, Local, New, Delete, Copy}
+use Rattle.source_blocks.specs.rpp_tree.Tree.{Uncopy, Call, Skip}
 use Rattle.source_blocks.specs.roopl_semantics.Run.{Run as Run', ◌>>=◌, give}
 use Rattle.source_blocks.specs.roopl_semantics.Execution.{Setting}
 use Rattle.source_blocks.specs.meaning_machine.Machine.{Config, past_it, begun}

@@ -1,10 +1,10 @@
 -- Statements that begin, with so much fuel.
 use Rattle.std.proofs.Common.{◌≡◌, ℕ, refl, sym, ap, subst, ◌∙◌, List, Bool, if◌then◌else◌}
 use Rattle.std.specs.Prelude.{not, Option, Result, Ok, Err, MatchResult}
-use Rattle.rpp_tree.specs.declared.tree.Ident.{Ident}
-use Rattle.rpp_tree.specs.declared.tree.Var.{Var}
-use Rattle.rpp_tree.specs.Tree.{Expression, Null, Lvalue, Statement, Statements, Update, Swap, If, From, Construct}
-use Rattle.rpp_tree.specs.Tree.{Local, New, Delete, Copy, Uncopy, Call, Skip}
+use Rattle.source_blocks.specs.rpp_tree.declared.tree.Ident.{Ident}
+use Rattle.source_blocks.specs.rpp_tree.declared.tree.Var.{Var}
+use Rattle.source_blocks.specs.rpp_tree.Tree.{Expression, Null, Lvalue, Statement, Statements, Update, Swap, If, From, Construct}
+use Rattle.source_blocks.specs.rpp_tree.Tree.{Local, New, Delete, Copy, Uncopy, Call, Skip}
 use Rattle.source_blocks.specs.roopl_semantics.Run.{Run as Run', More, ◌>>=◌, give, fault_if}
 use Rattle.source_blocks.specs.roopl_semantics.Store.{Value, State}
 use Rattle.source_blocks.specs.roopl_semantics.Value.{evaluated}

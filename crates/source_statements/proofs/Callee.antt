@@ -4,8 +4,8 @@ use Rattle.std.proofs.Common.{map}
 use Rattle.std.proofs.Common.{length, take, min, All, Bool, Bor}
 use Rattle.std.proofs.lemmas.List.{length-map}
 use Rattle.std.specs.Prelude.{Result, Ok, Err, MatchResult}
-use Rattle.rpp_tree.specs.declared.tree.Var.{Var}
-use Rattle.rpp_tree.specs.Tree.{Statements, End, Procedure}
+use Rattle.source_blocks.specs.rpp_tree.declared.tree.Var.{Var}
+use Rattle.source_blocks.specs.rpp_tree.Tree.{Statements, End, Procedure}
 use Rattle.source_blocks.specs.roopl_semantics.Store.{State, Value, Binding}
 use Rattle.source_blocks.specs.roopl_semantics.Value.{Cell, read}
 use Rattle.source_blocks.specs.roopl_semantics.Execution.{bound, moved_out, in_direction}

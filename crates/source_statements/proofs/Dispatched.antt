@@ -7,7 +7,7 @@ use Rattle.std.proofs.lemmas.List.{length-map}
 use Rattle.std.specs.Prelude.{Option, slice_get, nat_lt, position}
 use Rattle.std.specs.Option.{unwrap_or}
 use Rattle.std.specs.Str.{bytes_eq}
-use Rattle.rpp_tree.specs.Tree.{Procedure, Source}
+use Rattle.source_blocks.specs.rpp_tree.Tree.{Procedure, Source}
 use Rattle.source_blocks.specs.class_rules.declared.method.MethodId.{MethodId}
 use Rattle.source_blocks.specs.class_rules.Table.{Table, table_of, slots_in, slot_in, dispatch_in}
 use Rattle.source_blocks.specs.class_rules.Rules.{all_class_names}

@@ -2,7 +2,7 @@
 use Rattle.std.proofs.Common.{◌≡◌, ℕ, refl, sym, ap, subst, ◌∙◌, arith, List, [], ◌∷◌, ◌++◌, map, length, Bool, true}
 use Rattle.std.proofs.Common.{false, if◌then◌else◌}
 use Rattle.std.specs.Prelude.{not}
-use Rattle.rpp_tree.specs.Tree.{Expression, Statements}
+use Rattle.source_blocks.specs.rpp_tree.Tree.{Expression, Statements}
 use Rattle.source_blocks.specs.roopl_semantics.Run.{Run, ◌>>=◌, give, fault_if}
 use Rattle.source_blocks.specs.roopl_semantics.Store.{Value, State, same_value}
 use Rattle.source_blocks.specs.roopl_semantics.Value.{Cell, Slot, evaluated, read}

@@ -1,8 +1,8 @@
 -- Calls that begin, with so much fuel.
 use Rattle.std.proofs.Common.{◌≡◌, ℕ, ◌+◌, sym, ap, subst, ◌∙◌, List, [], ◌∷◌, ◌++◌, map, length, Bool, None}
 use Rattle.std.specs.Prelude.{Result, MatchResult}
-use Rattle.rpp_tree.specs.declared.tree.Ident.{Ident}
-use Rattle.rpp_tree.specs.Tree.{Statement, Statements, End, Procedure}
+use Rattle.source_blocks.specs.rpp_tree.declared.tree.Ident.{Ident}
+use Rattle.source_blocks.specs.rpp_tree.Tree.{Statement, Statements, End, Procedure}
 use Rattle.source_blocks.specs.class_rules.Classes.{method_named}
 use Rattle.source_blocks.specs.roopl_semantics.Run.{Run, ◌>>=◌, give, spend, fault_if}
 use Rattle.source_blocks.specs.roopl_semantics.Store.{State, Value, Binding}

@@ -1,6 +1,6 @@
 -- A step of a run.
 use Rattle.std.proofs.Common.{◌≡◌, ◌<◌, ◌≤◌, ◌+◌, ◌*◌, ◌∙◌, ℕ, sym, ap, subst, arith, Bool, true, false}
-use Rattle.rpp_tree.specs.Tree.{Statement, Statements}
+use Rattle.source_blocks.specs.rpp_tree.Tree.{Statement, Statements}
 use Rattle.std.specs.Prelude.{Result, Ok, Err, OnOk}
 use Rattle.source_blocks.specs.roopl_semantics.Run.{◌>>=◌, spend}
 use Rattle.source_blocks.specs.roopl_semantics.Execution.{Setting}

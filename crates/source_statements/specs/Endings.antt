@@ -1,6 +1,6 @@
 -- The end of a block.
 use Rattle.std.specs.Prelude.{◌≡◌, ◌<◌, ℕ, Bool, List, [], ◌∷◌, length}
-use Rattle.rpp_tree.specs.Tree.{Expression}
+use Rattle.source_blocks.specs.rpp_tree.Tree.{Expression}
 use Rattle.source_blocks.specs.roopl_semantics.Store.{State}
 use Rattle.source_blocks.specs.meaning_machine.Machine.{Config, Open, Chosen}
 use Rattle.source_blocks.specs.source_store.HeapView.{Kept}

@@ -1,5 +1,5 @@
 pub use Rattle.source_blocks.specs.rpp_words
-pub use Rattle.rpp_tree.specs as rpp_tree
+pub use Rattle.source_blocks.specs.rpp_tree
 pub use Rattle.source_blocks.specs.class_rules
 pub use Rattle.source_blocks.specs.inverse_rules
 pub use Rattle.source_blocks.specs.roopl_semantics

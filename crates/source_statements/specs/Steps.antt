@@ -1,6 +1,6 @@
 -- Steps of a run, also of a reversed one: there `new` and `delete` undo requests to the heap.
 use Rattle.std.specs.Prelude.{◌<◌, ℕ, Bool, true, false, List}
-use Rattle.rpp_tree.specs.Tree.{Statement, Statements, End, Then}
+use Rattle.source_blocks.specs.rpp_tree.Tree.{Statement, Statements, End, Then}
 use Rattle.source_blocks.specs.roopl_semantics.Run.{Run}
 use Rattle.source_blocks.specs.roopl_semantics.Execution.{Setting}
 use Rattle.source_blocks.specs.meaning_machine.Machine.{Config, Open, begun, next}

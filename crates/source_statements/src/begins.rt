@@ -1,7 +1,7 @@
 // A statement that begins.
 ghost use Rattle.std.specs.Prelude.{◌≡◌, ◌+◌, ◌<◌, ◌≤◌, ◌^◌, OnOk, MatchResult, length, true, if◌then◌else◌, IfErr};
-ghost use Rattle.rpp_tree.specs.Tree.{If, From as Repeat, Null};
-ghost use Rattle.rpp_tree.specs.Views.{expression_of, block_of, statement_of};
+ghost use Rattle.source_blocks.specs.rpp_tree.Tree.{If, From as Repeat, Null};
+ghost use Rattle.source_blocks.specs.rpp_tree.Views.{expression_of, block_of, statement_of};
 ghost use Rattle.source_blocks.specs.roopl_semantics.Execution.{in_direction, opened};
 ghost use Rattle.source_blocks.specs.meaning_machine.Machine.{begun, held_local, inside, Chosen, Holding};
 ghost use Rattle.source_blocks.specs.source_store.ValueView.{value_of};
@@ -15,14 +15,13 @@ ghost use Rattle.source_blocks.specs.Runs.{IsSound, IsSimple, config_of, state_i
 ghost use Rattle.source_blocks.specs.Stops.{MayStop};
 
 use crate::calls::{call, call_on};
-use code_conventions::faults::LOOP;
-use rpp_tree::tree::{Block, Expr, Stmt};
+use source_blocks::faults::LOOP;
+use source_blocks::tree::Block;
 use source_blocks::{
-    Calls, Closing, Construct, Line, Local, Loop, Part, Run, Task, carry_line, carry_out,
-    closing_value, open_block, pass, value_in,
+    Calls, Closing, Construct, Expr, Lack, Line, Local, Loop, Part, Run, Stmt, Stop, Task, Value,
+    carry_line, carry_out, closing_value, element_place, is_true, open_block, pass, refuse,
+    turned_call, value_in, with_mark,
 };
-use source_steps::{Stop, element_place, is_true, refuse, turned_call, with_mark};
-use source_store::{Lack, Value};
 
 /// A choice, in its direction.
 #[derive(Clone, Copy)]

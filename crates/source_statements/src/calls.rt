@@ -1,8 +1,8 @@
 // A call that begins.
 ghost use Rattle.std.specs.Prelude.{◌≡◌, ◌+◌, ◌<◌, ◌≤◌, ◌^◌, [], ◌∷◌, OnOk, MatchResult, length, map, take, min, None, Some};
 ghost use Rattle.std.specs.Option.{unwrap_or, option_map};
-ghost use Rattle.rpp_tree.specs.Tree.{Whole, Procedure};
-ghost use Rattle.rpp_tree.specs.Views.{procedure_of, optional_lvalue_of};
+ghost use Rattle.source_blocks.specs.rpp_tree.Tree.{Whole, Procedure};
+ghost use Rattle.source_blocks.specs.rpp_tree.Views.{procedure_of, optional_lvalue_of};
 ghost use Rattle.source_blocks.specs.class_rules.Members.{no_procedure};
 ghost use Rattle.source_blocks.specs.class_rules.Classes.{method_named};
 ghost use Rattle.source_blocks.specs.roopl_semantics.Value.{read, cell_named};
@@ -20,16 +20,13 @@ ghost use Rattle.source_blocks.specs.Runs.{IsSound, config_of, state_in, here_in
 
 use crate::begins::open_local;
 use crate::methods::{begin, called, cost_of, is_deep, method_of};
-use code_conventions::faults::{NIL, TOO_DEEP};
-use rpp_tree::Text;
-use rpp_tree::tree::{Ident, Method, Place, Var};
+use source_blocks::faults::{NIL, TOO_DEEP};
+use source_blocks::tree::{Ident, Method, Place, Var};
 use source_blocks::{
-    Caller, Calls, Closing, Local, Part, Receiver, Run, Task, open_block, scope_of,
+    Caller, Calls, Cell, Closing, Lack, Local, Part, Receiver, Run, Stop, Task, Text, Value,
+    cell_of_name, cells_of, move_out, open_block, read_cell, read_cells, refuse, scope_of, spend,
+    with_marks,
 };
-use source_steps::{
-    Cell, Stop, cell_of_name, cells_of, move_out, read_cell, read_cells, refuse, spend, with_marks,
-};
-use source_store::{Lack, Value};
 use std::mem::replace;
 use std::slice::from_ref;
 

@@ -1,6 +1,6 @@
 // The end of a block.
 ghost use Rattle.std.specs.Prelude.{◌≡◌, ◌+◌, ◌*◌, ◌<◌, ◌≤◌, ◌++◌, suc, not, if◌then◌else◌, OnOk, OnErr, length, map, IfErr};
-ghost use Rattle.rpp_tree.specs.Views.{expression_of};
+ghost use Rattle.source_blocks.specs.rpp_tree.Views.{expression_of};
 ghost use Rattle.source_blocks.specs.roopl_semantics.Execution.{closed, moved_back};
 ghost use Rattle.source_blocks.specs.meaning_machine.Machine.{closing};
 ghost use Rattle.source_blocks.specs.source_store.ValueView.{values_of};
@@ -15,14 +15,12 @@ ghost use Rattle.source_blocks.specs.Endings.{IsInCall};
 ghost use Rattle.source_statements.specs.Endings.{IsInSide, caller_state, HasCallSpace, Falls};
 ghost use Rattle.source_blocks.specs.source_steps.Marks.{AreMarked};
 
-use code_conventions::faults::{DELOCAL, FI, LOOP};
-use rpp_tree::tree::Expr;
+use source_blocks::faults::{DELOCAL, FI, LOOP};
 use source_blocks::{
-    Caller, Ending, Frame, Local, Loop, Part, Run, Task, block_ending, close_block, closing_value,
-    go_over, innermost, scope_of, value_in,
+    Caller, Ending, Expr, Frame, Heap, Lack, Local, Loop, Part, Run, Setting, Stop, Task, Value,
+    block_ending, close_block, closing_value, go_over, innermost, is_true, refuse, return_values,
+    scope_of, value_in,
 };
-use source_steps::{Setting, Stop, is_true, refuse, return_values};
-use source_store::{Heap, Lack, Value};
 use std::slice::from_ref;
 
 /// Whether a choice that took this side is left with a test that is not that of the side.

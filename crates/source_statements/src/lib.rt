@@ -11,4 +11,8 @@ mod methods;
 mod steps;
 
 pub use methods::method_at;
+pub use source_blocks::{Checked, Setting, Stop, Text, put_value, tree, zeros};
 pub use steps::step;
+
+/// An alias hands on this enum, which contains itself: Rattle does not find one that is handed on by `pub use`.
+pub type Stmt = source_blocks::Stmt;

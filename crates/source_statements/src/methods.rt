@@ -1,17 +1,14 @@
 // Methods by their names, and what a call begins with.
 ghost use Rattle.std.specs.Prelude.{◌≡◌, ◌+◌, ◌<◌, ◌≤◌, map, min, length, take, slice_get, not, nat_lt};
 ghost use Rattle.std.specs.Option.{unwrap_or, option_map};
-ghost use Rattle.rpp_tree.specs.Views.{source_of, procedure_of};
+ghost use Rattle.source_blocks.specs.rpp_tree.Views.{source_of, procedure_of};
 ghost use Rattle.source_blocks.specs.class_rules.Members.{class_at, no_procedure};
 ghost use Rattle.source_blocks.specs.class_rules.Classes.{method_named};
 ghost use Rattle.source_blocks.specs.source_steps.Ends.{slot_or_first};
 ghost use Rattle.source_blocks.specs.source_steps.StateView.{setting_of};
 
-use class_table::{MethodId, methods_at};
-use rpp_tree::Text;
-use rpp_tree::tree::{Ident, Method, Program, Var};
-use source_steps::Setting;
-use source_store::Value;
+use source_blocks::tree::{Ident, Method, Program, Var};
+use source_blocks::{MethodId, Setting, Text, Value, methods_at};
 
 /// The text of a method.
 pub fn method_at(program: &Program, id: MethodId) -> Option<&Method>

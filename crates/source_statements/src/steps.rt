@@ -1,6 +1,6 @@
 // A step of a run: a statement of the block that runs begins, or the block ends.
 ghost use Rattle.std.specs.Prelude.{◌≡◌, ◌+◌, ◌*◌, ◌<◌, ◌≤◌, OnOk, length, true, IfErr};
-ghost use Rattle.rpp_tree.specs.Views.{block_of, statement_of};
+ghost use Rattle.source_blocks.specs.rpp_tree.Views.{block_of, statement_of};
 ghost use Rattle.source_blocks.specs.roopl_semantics.Execution.{in_direction};
 ghost use Rattle.source_blocks.specs.meaning_machine.Machine.{begun};
 ghost use Rattle.source_blocks.specs.source_steps.Ends.{turned};
@@ -15,9 +15,10 @@ ghost use Rattle.source_blocks.specs.Stops.{MayStop};
 
 use crate::begins::{begin, begin_backward, begin_forward, begin_plain};
 use crate::ends::end;
-use rpp_tree::tree::{Block, Stmt};
-use source_blocks::{Line, Run, Task, is_request, line_at, pass, statement_in, take_line_back};
-use source_steps::{Stop, spend};
+use source_blocks::tree::Block;
+use source_blocks::{
+    Line, Run, Stmt, Stop, Task, is_request, line_at, pass, spend, statement_in, take_line_back,
+};
 
 /// A `new` or `delete` begins in a reversed run, and is past.
 fn begin_request(run: &mut Run, fuel: &mut u64, line: &Line) -> Result<(), Stop>

@@ -2,9 +2,9 @@
 use Rattle.std.proofs.Common.{◌≡◌, ◌+◌, refl, sym, ap, ◌∙◌, arith, List, [], ◌∷◌, ◌++◌, length, Bool, true, false}
 use Rattle.std.proofs.lemmas.List.{length-append}
 use Rattle.std.specs.Prelude.{◌||◌}
-use Rattle.rpp_tree.specs.declared.tree.Ident.{Ident}
-use Rattle.rpp_tree.specs.declared.tree.BinOp.TheVariants as op
-use Rattle.rpp_tree.specs.Tree.{Expression, Number, Null, Variable, Element, Binary, Source}
+use Rattle.class_table.specs.rpp_tree.declared.tree.Ident.{Ident}
+use Rattle.class_table.specs.rpp_tree.declared.tree.BinOp.TheVariants as op
+use Rattle.class_table.specs.rpp_tree.Tree.{Expression, Number, Null, Variable, Element, Binary, Source}
 use Rattle.source_store.specs.roopl_semantics.Store.{State, same_value}
 use Rattle.source_store.specs.roopl_semantics.Value.{variable_value}
 use Rattle.source_store.specs.roopl_semantics.Elements.{elements, is_among}

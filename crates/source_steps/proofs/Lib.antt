@@ -1,4 +1,4 @@
-pub use Rattle.rpp_tree.proofs as rpp_tree_laws
+pub use Rattle.source_store.proofs.rpp_tree_laws
 pub use Rattle.source_store.proofs.class_rules_laws
 pub use Rattle.source_store.proofs.inverse_rules_laws
 pub use Rattle.source_store.proofs.roopl_semantics_laws

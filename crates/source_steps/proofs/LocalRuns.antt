@@ -1,6 +1,6 @@
 -- Blocks with a local variable.
 use Rattle.std.proofs.Common.{◌≡◌, ℕ, sym, subst, ◌∙◌, ◌∷◌}
-use Rattle.rpp_tree.specs.Tree.{Expression, Lvalue, Source}
+use Rattle.class_table.specs.rpp_tree.Tree.{Expression, Lvalue, Source}
 use Rattle.source_store.specs.roopl_semantics.Run.{Run, ◌>>=◌}
 use Rattle.source_store.specs.roopl_semantics.Store.{State, Value}
 use Rattle.source_store.specs.roopl_semantics.Value.{Cell, evaluated, found}

@@ -8,7 +8,7 @@ use Rattle.std.specs.Prelude.{position}
 use Rattle.std.specs.Int.{bit_at}
 use Rattle.std.specs.Option.{option_map}
 use Rattle.std.specs.Str.{bytes_eq}
-use Rattle.rpp_tree.specs.declared.tree.Var.{Var}
+use Rattle.class_table.specs.rpp_tree.declared.tree.Var.{Var}
 use Rattle.source_steps.specs.Marks.{mark_number, has_mark, with_mark, with_marks, AreMarked}
 use Rattle.source_steps.proofs.Scopes.{after_first, position_cons}
 

@@ -2,8 +2,8 @@
 use Rattle.std.proofs.Common.{◌≡◌, ℕ, zero, suc, ◌+◌, refl, ap, arith, List, [], ◌∷◌, ◌++◌}
 use Rattle.std.proofs.Common.{length, map, take, Bool, true, false}
 use Rattle.std.specs.Prelude.{min}
-use Rattle.rpp_tree.specs.declared.tree.Var.{Var}
-use Rattle.rpp_tree.specs.Tree.{Procedure}
+use Rattle.class_table.specs.rpp_tree.declared.tree.Var.{Var}
+use Rattle.class_table.specs.rpp_tree.Tree.{Procedure}
 use Rattle.source_store.specs.roopl_semantics.Store.{State, Value, cleared}
 use Rattle.source_store.specs.roopl_semantics.Value.{Cell, read, written}
 use Rattle.source_store.specs.roopl_semantics.Execution.{Setting, Runner, bound, moved_out}

@@ -7,7 +7,7 @@ use Rattle.std.proofs.lemmas.List.{length-map, map-set}
 use Rattle.std.specs.Prelude.{Option, slice_get, slice_set, nat_lt, position}
 use Rattle.std.specs.Option.{unwrap_or}
 use Rattle.std.specs.Str.{bytes_eq}
-use Rattle.rpp_tree.specs.Tree.{Source}
+use Rattle.class_table.specs.rpp_tree.Tree.{Source}
 use Rattle.source_store.specs.class_rules.Table.{Table, table_of, fields_in, field_in}
 use Rattle.source_store.specs.class_rules.Rules.{all_class_names}
 use Rattle.source_store.specs.class_rules.Chains.{parents, parent_named, chain, with_last}

@@ -1,7 +1,7 @@
 -- The elements that a statement reads, and whether one is of an array.
 use Rattle.std.specs.Prelude.{ℕ, ◌+◌, Bool, false, ◌||◌, List, [], Option, Some, None}
-use Rattle.rpp_tree.specs.declared.tree.Ident.{Ident}
-use Rattle.rpp_tree.specs.Tree.{Expression, Number, Null, Variable, Element, Binary, Source}
+use Rattle.class_table.specs.rpp_tree.declared.tree.Ident.{Ident}
+use Rattle.class_table.specs.rpp_tree.Tree.{Expression, Number, Null, Variable, Element, Binary, Source}
 use Rattle.source_store.specs.roopl_semantics.Store.{State, Value, same_value}
 use Rattle.source_store.specs.roopl_semantics.Value.{variable_value}
 use Rattle.source_store.specs.roopl_semantics.Elements.{elements}

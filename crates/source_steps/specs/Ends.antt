@@ -3,7 +3,7 @@ use Rattle.std.specs.Prelude.{ℕ, suc, ◌+◌, List, Bool, true, false, not, �
 use Rattle.std.specs.Prelude.{replicate, Option, Some, None, Result}
 use Rattle.std.specs.Option.{unwrap_or}
 use Rattle.source_store.specs.rpp_words.Words.{is_less}
-use Rattle.rpp_tree.specs.Tree.{Expression, Lvalue, Statement, Source}
+use Rattle.class_table.specs.rpp_tree.Tree.{Expression, Lvalue, Statement, Source}
 use Rattle.source_store.specs.class_rules.Classes.{class_number, class_fields, method_slot}
 use Rattle.source_store.specs.inverse_rules.Inverse.{inverse_statement}
 use Rattle.source_store.specs.roopl_semantics.Run.{Run, More, ◌>>=◌, give, spend, fault_if}

@@ -2,7 +2,7 @@
 use Rattle.std.specs.Prelude.{◌≡◌, ℕ, ◌+◌, ◌*◌, ◌%◌, ◌^◌, Bool, true, nat_eq, List, [], ◌∷◌, length}
 use Rattle.std.specs.Prelude.{bit_or}
 use Rattle.std.specs.Int.{bit_at}
-use Rattle.rpp_tree.specs.declared.tree.Var.{Var}
+use Rattle.class_table.specs.rpp_tree.declared.tree.Var.{Var}
 
 -- the number of the mark of a name, from its first byte and its length
 abbrev pub mark_number : List ℕ → ℕ

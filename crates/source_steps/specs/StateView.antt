@@ -1,8 +1,8 @@
 -- What contracts see of the state of a run.
 use Rattle.std.specs.Prelude.{◌≡◌, ℕ, ◌+◌, nat_lt, if◌then◌else◌, List, [], ◌∷◌, ◌++◌, map, length}
 use Rattle.std.specs.Prelude.{Result, Ok, Err}
-use Rattle.rpp_tree.specs.declared.tree.Var.{Var}
-use Rattle.rpp_tree.specs.Views.{source_of}
+use Rattle.class_table.specs.rpp_tree.declared.tree.Var.{Var}
+use Rattle.class_table.specs.rpp_tree.Views.{source_of}
 use Rattle.source_store.specs.roopl_semantics.Store.{Value, Name, object_at, Store, Binding, State}
 use Rattle.source_store.specs.roopl_semantics.Execution.{Setting, bound}
 use Rattle.source_store.specs.roopl_semantics.Value.{Cell, Part, NIL, INDEX}

@@ -1,7 +1,7 @@
 // The check that a statement changes no element of an array that it reads.
 ghost use Rattle.std.specs.Prelude.{◌≡◌, ◌≤◌, ◌++◌, ◌||◌, ◌∷◌, [], length, OnOk, IfSome, IfErr};
 ghost use Rattle.std.specs.Option.{option_map};
-ghost use Rattle.rpp_tree.specs.Views.{expression_of, lvalue_of};
+ghost use Rattle.class_table.specs.rpp_tree.Views.{expression_of, lvalue_of};
 ghost use Rattle.source_store.specs.roopl_semantics.Run.{spend as spending};
 ghost use Rattle.source_store.specs.roopl_semantics.Elements.{elements, index_elements, own_element, is_among, kept_apart};
 ghost use Rattle.source_store.specs.ValueView.{value_of};
@@ -14,8 +14,9 @@ use crate::expressions::{Setting, one_less};
 use crate::scope::Scope;
 use crate::steps::refuse;
 use crate::stop::Stop;
-use code_conventions::faults::SHARED_ARRAY;
-use rpp_tree::tree::{Expr, Ident, Place};
+use class_table::Expr;
+use class_table::tree::{Ident, Place};
+use source_store::faults::SHARED_ARRAY;
 use source_store::{Heap, Value};
 
 /// Fuel after the elements of an expression.

@@ -1,7 +1,7 @@
 // Requests to the heap undone.
 ghost use Rattle.std.specs.Prelude.{◌≡◌, ◌≤◌, ◌<◌, ◌^◌, OnOk, length};
-ghost use Rattle.rpp_tree.specs.Tree.{Object as AnObject};
-ghost use Rattle.rpp_tree.specs.Views.{creation_of, expression_of, lvalue_of};
+ghost use Rattle.class_table.specs.rpp_tree.Tree.{Object as AnObject};
+ghost use Rattle.class_table.specs.rpp_tree.Views.{creation_of, expression_of, lvalue_of};
 ghost use Rattle.source_store.specs.meaning_machine.Reversed.{untaken, ungiven, unmade as unmade_in, undeleted as undeleted_in};
 ghost use Rattle.source_store.specs.ValueView.{value_of, values_of, kept_head};
 ghost use Rattle.source_steps.specs.CellView.{cell_view};
@@ -15,8 +15,8 @@ use crate::objects::{class_of_name, element_of, elements, fields_of, head_of_arr
 use crate::scope::Scope;
 use crate::steps::{evaluate, locate};
 use crate::stop::Stop;
-use rpp_tree::Text;
-use rpp_tree::tree::{Expr, Ident, Made, Place};
+use class_table::tree::{Ident, Made, Place};
+use class_table::{Expr, Text};
 use source_store::{Head, Heap, Lack, Value};
 
 /// What a cell names goes, with the newest request, if that was for a new object.

@@ -13,9 +13,9 @@ use crate::expressions::Setting;
 use crate::scope::Scope;
 use crate::steps::refuse;
 use crate::stop::Stop;
-use code_conventions::faults::TOUCHED;
-use rpp_tree::tree::Ident;
-use rpp_words::NoMemory;
+use class_table::NoMemory;
+use class_table::tree::Ident;
+use source_store::faults::TOUCHED;
 use source_store::{Heap, Lack, Value};
 use std::alloc::Global;
 

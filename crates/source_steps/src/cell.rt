@@ -12,8 +12,7 @@ ghost use Rattle.source_steps.specs.StateView.{IsFramed, names_of, frame_of, sta
 
 use crate::expressions::Setting;
 use crate::scope::{Scope, slot, var_slot};
-use class_table::ClassTable;
-use rpp_tree::Text;
+use class_table::{ClassTable, Text};
 use source_store::{Heap, Object, Value};
 
 /// What can be read and changed: a variable of the frame, or a field or element.

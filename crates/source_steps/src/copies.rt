@@ -1,7 +1,7 @@
 // Copies of references.
 ghost use Rattle.std.specs.Prelude.{◌≡◌, ◌≤◌, OnOk, not, IfErr};
-ghost use Rattle.rpp_tree.specs.Tree.{Copy as CopyTo, Uncopy};
-ghost use Rattle.rpp_tree.specs.Views.{lvalue_of};
+ghost use Rattle.class_table.specs.rpp_tree.Tree.{Copy as CopyTo, Uncopy};
+ghost use Rattle.class_table.specs.rpp_tree.Views.{lvalue_of};
 ghost use Rattle.source_store.specs.roopl_semantics.Execution.{same_cell};
 ghost use Rattle.source_steps.specs.CellView.{cell_view};
 ghost use Rattle.source_steps.specs.Ends.{EndsAs, does_simply, copied, uncopied};
@@ -14,8 +14,8 @@ use crate::expressions::Setting;
 use crate::scope::Scope;
 use crate::steps::{locate, refuse};
 use crate::stop::Stop;
-use code_conventions::faults::{NIL, NOT_NIL, NOT_SAME};
-use rpp_tree::tree::{Place, VarType};
+use class_table::tree::{Place, VarType};
+use source_store::faults::{NIL, NOT_NIL, NOT_SAME};
 use source_store::{Heap, Value};
 
 /// Whether two cells are one.

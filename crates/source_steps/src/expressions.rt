@@ -1,7 +1,7 @@
 // The values of expressions and places.
 ghost use Rattle.std.specs.Prelude.{◌≡◌, ◌<◌, ◌≤◌, Ok, IfSome, true};
-ghost use Rattle.rpp_tree.specs.Tree.{nodes, index_nodes};
-ghost use Rattle.rpp_tree.specs.Views.{expression_of, lvalue_of};
+ghost use Rattle.class_table.specs.rpp_tree.Tree.{nodes, index_nodes};
+ghost use Rattle.class_table.specs.rpp_tree.Views.{expression_of, lvalue_of};
 ghost use Rattle.source_store.specs.roopl_semantics.Operators.{truth_word, operated};
 ghost use Rattle.source_store.specs.roopl_semantics.Store.{Word, number_of};
 ghost use Rattle.source_store.specs.roopl_semantics.Value.{element_cell, element_of, value as value_in, cell_of as place_in, combined};
@@ -12,10 +12,9 @@ ghost use Rattle.source_steps.specs.StateView.{IsFramed, element_in, state_of, s
 
 use crate::cell::{Cell, cell_of_name, read_cell, variable};
 use crate::scope::Scope;
-use class_table::Checked;
-use code_conventions::faults::{INDEX, NIL};
-use rpp_tree::tree::{BinOp, Expr, Place};
-use rpp_words::{Limits, less, wrap_add, wrap_sub};
+use class_table::tree::{BinOp, Place};
+use class_table::{Checked, Expr, Limits, less, wrap_add, wrap_sub};
+use source_store::faults::{INDEX, NIL};
 use source_store::{Heap, Value};
 use std::alloc::Global;
 

@@ -3,8 +3,8 @@ ghost use Rattle.std.specs.Prelude.{◌≡◌, MatchResult, None};
 ghost use Rattle.source_store.specs.roopl_semantics.Execution.{element_name};
 
 use crate::stop::Stop;
-use rpp_tree::Text;
-use rpp_tree::tree::{Ident, Place};
+use class_table::Text;
+use class_table::tree::{Ident, Place};
 use source_store::Lack;
 use std::alloc::Global;
 

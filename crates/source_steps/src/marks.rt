@@ -2,7 +2,7 @@
 ghost use Rattle.std.specs.Prelude.{◌≡◌, ◌<◌};
 ghost use Rattle.source_steps.specs.Marks.{mark_number, has_mark, with_mark as with_one, with_marks as with_each};
 
-use rpp_tree::tree::Var;
+use class_table::tree::Var;
 
 /// The number of the mark of a name.
 #[inline(always)]

@@ -1,8 +1,8 @@
 // Objects and arrays that are made and deleted.
 ghost use Rattle.std.specs.Prelude.{◌≡◌, ◌+◌, ◌≤◌, ◌<◌, ◌^◌, IfOk, OnOk, length, replicate};
 ghost use Rattle.std.specs.Option.{unwrap_or};
-ghost use Rattle.rpp_tree.specs.Tree.{New, Delete, Object as AnObject};
-ghost use Rattle.rpp_tree.specs.Views.{source_of, creation_of, expression_of, lvalue_of};
+ghost use Rattle.class_table.specs.rpp_tree.Tree.{New, Delete, Object as AnObject};
+ghost use Rattle.class_table.specs.rpp_tree.Views.{source_of, creation_of, expression_of, lvalue_of};
 ghost use Rattle.source_store.specs.class_rules.Classes.{class_fields, class_number};
 ghost use Rattle.source_store.specs.roopl_semantics.Store.{zero_value, zero_values};
 ghost use Rattle.source_store.specs.roopl_semantics.Execution.{allocated, freed, new_array as new_array_in, delete_array as delete_array_in};
@@ -18,12 +18,11 @@ use crate::expressions::Setting;
 use crate::scope::Scope;
 use crate::steps::{evaluate, locate, refuse, spend};
 use crate::stop::Stop;
-use code_conventions::faults::{
+use class_table::tree::{Ident, Made, Place, Var, VarType};
+use class_table::{Expr, NoMemory, Text, less};
+use source_store::faults::{
     CLASS_DIFFERS, COUNT, HEAP_FULL, LENGTH, LENGTH_DIFFERS, NIL, NOT_EMPTY, NOT_NIL,
 };
-use rpp_tree::Text;
-use rpp_tree::tree::{Expr, Ident, Made, Place, Var, VarType};
-use rpp_words::{NoMemory, less};
 use source_store::{Head, Heap, Lack, Value};
 use std::alloc::Global;
 

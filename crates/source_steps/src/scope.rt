@@ -5,8 +5,8 @@ ghost use Rattle.source_steps.specs.Marks.{AreMarked};
 ghost use Rattle.source_steps.specs.StateView.{names_of};
 
 use crate::marks::is_marked;
-use rpp_tree::Text;
-use rpp_tree::tree::Var;
+use class_table::Text;
+use class_table::tree::Var;
 use source_store::Value;
 
 /// The variables of an open method by their names: its locals, the innermost first, and then its

@@ -1,7 +1,7 @@
 // Statements that hold no others, except for calls and the heap.
 ghost use Rattle.std.specs.Prelude.{◌≡◌, ◌≤◌, OnOk, IfErr, not, if◌then◌else◌};
-ghost use Rattle.rpp_tree.specs.Tree.{Update, Swap, Whole};
-ghost use Rattle.rpp_tree.specs.Views.{expression_of, lvalue_of};
+ghost use Rattle.class_table.specs.rpp_tree.Tree.{Update, Swap, Whole};
+ghost use Rattle.class_table.specs.rpp_tree.Views.{expression_of, lvalue_of};
 ghost use Rattle.source_store.specs.inverse_rules.Inverse.{inverse_operator};
 ghost use Rattle.source_store.specs.roopl_semantics.Operators.{updated};
 ghost use Rattle.source_steps.specs.Ends.{EndsAs, does_simply};
@@ -14,8 +14,8 @@ use crate::expressions::Setting;
 use crate::scope::Scope;
 use crate::steps::{evaluate, locate, operand};
 use crate::stop::Stop;
-use rpp_tree::tree::{Expr, Ident, Place, UpdateOp};
-use rpp_words::{wrap_add, wrap_sub};
+use class_table::tree::{Ident, Place, UpdateOp};
+use class_table::{Expr, wrap_add, wrap_sub};
 use source_store::{Heap, Value};
 
 fn update_word(op: UpdateOp, a: u32, b: u32) -> u32

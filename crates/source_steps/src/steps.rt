@@ -1,6 +1,6 @@
 // The steps that statements are made of, each with its cost.
 ghost use Rattle.std.specs.Prelude.{◌≡◌, ◌+◌, ◌<◌, ◌≤◌, IfOk, OnOk, IfErr};
-ghost use Rattle.rpp_tree.specs.Views.{expression_of, lvalue_of};
+ghost use Rattle.class_table.specs.rpp_tree.Views.{expression_of, lvalue_of};
 ghost use Rattle.source_store.specs.roopl_semantics.Execution.{holds};
 ghost use Rattle.source_store.specs.roopl_semantics.Value.{evaluated as evaluated_in, found as found_in};
 ghost use Rattle.source_store.specs.roopl_semantics.Run.{spend as spending, fault_if};
@@ -13,7 +13,8 @@ use crate::cell::{Cell, cell_of_name};
 use crate::expressions::{Setting, combine, find, leaf, less_by, one_less, pay, pay_place, value};
 use crate::scope::Scope;
 use crate::stop::Stop;
-use rpp_tree::tree::{Expr, Place};
+use class_table::Expr;
+use class_table::tree::Place;
 use source_store::{Heap, Value};
 
 /// Takes the cost of a step from the fuel, or stops where the fuel is less.

@@ -3,7 +3,7 @@ ghost use Rattle.std.specs.Prelude.{◌≡◌};
 ghost use Rattle.source_store.specs.declared.lack.Lack.TheVariants.{NoMemory as WantsMemory};
 ghost use Rattle.source_steps.specs.declared.stop.Stop.TheVariants.{Lacks};
 
-use rpp_words::NoMemory;
+use class_table::NoMemory;
 use source_store::Lack;
 use std::alloc::{AllocError, AllocFailed};
 

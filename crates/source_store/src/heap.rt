@@ -10,8 +10,7 @@ ghost use Rattle.meaning_machine.specs.buddy_book.Place.{count_taken, place};
 use crate::object::{Head, Object, cell_in, is_all_zero};
 use crate::requests::Request;
 use crate::value::Value;
-use buddy_book::Book;
-use rpp_words::{HEADER_WORDS, NoMemory, order_for};
+use meaning_machine::{Book, HEADER_WORDS, NoMemory, order_for};
 use std::alloc::Global;
 use std::marker::Model;
 

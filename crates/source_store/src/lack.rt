@@ -15,15 +15,15 @@ pub enum Lack {
 
 impl Lack {
     /// What a program reports of a run that cannot go on, whichever the reason.
-    pub fn as_no_memory(self) -> rpp_words::NoMemory {
-        rpp_words::NoMemory
+    pub fn as_no_memory(self) -> meaning_machine::NoMemory {
+        meaning_machine::NoMemory
     }
 }
 
-impl From<rpp_words::NoMemory> for Lack {
+impl From<meaning_machine::NoMemory> for Lack {
     ghost from_gives = { λ _ e. e ≡ WantsMemory };
 
-    fn from(_: rpp_words::NoMemory) -> Self {
+    fn from(_: meaning_machine::NoMemory) -> Self {
         Lack::NoMemory
     }
 }

@@ -14,5 +14,6 @@ mod value;
 
 pub use heap::Heap;
 pub use lack::Lack;
+pub use meaning_machine::{NoMemory, faults};
 pub use object::{Head, Object};
 pub use value::Value;

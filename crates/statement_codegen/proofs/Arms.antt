@@ -4,15 +4,15 @@ use Rattle.std.specs.Prelude.{Option, Some, None, Result, Ok, Err, IfOk, nat_eq,
 use Rattle.std.specs.declared.alloc.Global.{Global}
 use Rattle.std.specs.Option.{option_map, is_none}
 use Rattle.std.proofs.lemmas.Bool.{eqb-true}
-use Rattle.rpp_tree.specs.declared.tree.Ident.{Ident}
-use Rattle.rpp_tree.specs.declared.tree.Expr.{Expr}
-use Rattle.rpp_tree.specs.declared.tree.Place.{Place}
-use Rattle.rpp_tree.specs.declared.tree.Var.{Var}
-use Rattle.rpp_tree.specs.declared.tree.UpdateOp.{UpdateOp}
-use Rattle.rpp_tree.specs.Tree.{Expression, Lvalue, Whole, Item, Statement, Statements, Update, Swap, If, From, Local}
-use Rattle.rpp_tree.specs.Tree.{Call, Source, nodes, index_nodes}
-use Rattle.rpp_tree.specs.Views.{lvalue_with, expression_of, lvalue_of, source_of}
-use Rattle.rpp_tree.specs.Parts.{list_tokens}
+use Rattle.refine_objects.specs.rpp_tree.declared.tree.Ident.{Ident}
+use Rattle.refine_objects.specs.rpp_tree.declared.tree.Expr.{Expr}
+use Rattle.refine_objects.specs.rpp_tree.declared.tree.Place.{Place}
+use Rattle.refine_objects.specs.rpp_tree.declared.tree.Var.{Var}
+use Rattle.refine_objects.specs.rpp_tree.declared.tree.UpdateOp.{UpdateOp}
+use Rattle.refine_objects.specs.rpp_tree.Tree.{Expression, Lvalue, Whole, Item, Statement, Statements, Update, Swap, If, From, Local}
+use Rattle.refine_objects.specs.rpp_tree.Tree.{Call, Source, nodes, index_nodes}
+use Rattle.refine_objects.specs.rpp_tree.Views.{lvalue_with, expression_of, lvalue_of, source_of}
+use Rattle.refine_objects.specs.rpp_tree.Parts.{list_tokens}
 use Rattle.branch_codegen.specs.class_rules.Overrides.{parameters_of}
 use Rattle.branch_codegen.specs.class_rules.Program.{IsAccepted}
 use Rattle.branch_codegen.specs.class_rules.Refusal.{wrong_arity}

@@ -7,9 +7,9 @@ use Rattle.std.specs.Prelude.{Ok, nat_eq, ◌&&◌, Result, Err, IfOk}
 use Rattle.std.specs.List.{All}
 use Rattle.std.specs.Option.{unwrap_or}
 use Rattle.std.specs.Str.{bytes_eq}
-use Rattle.rpp_tree.specs.declared.tree.Ident.{Ident}
-use Rattle.rpp_tree.specs.Tree.{Whole, Call, Source}
-use Rattle.rpp_tree.specs.Views.{source_of}
+use Rattle.refine_objects.specs.rpp_tree.declared.tree.Ident.{Ident}
+use Rattle.refine_objects.specs.rpp_tree.Tree.{Whole, Call, Source}
+use Rattle.refine_objects.specs.rpp_tree.Views.{source_of}
 use Rattle.branch_codegen.specs.class_rules.declared.kind.Kind.{Kind}
 use Rattle.branch_codegen.specs.class_rules.declared.kind.Kind.TheVariants as kind
 use Rattle.branch_codegen.specs.class_rules.Refusal.{unknown_name}

@@ -2,9 +2,9 @@
 use Rattle.std.proofs.Common.{◌≡◌, ℕ, suc, ◌+◌, ◌-◌, ◌*◌, ◌≤◌, inr, Bool, true, false, List, [], ◌∷◌, ◌++◌, length}
 use Rattle.std.proofs.Common.{refl, sym, ap, ◌∙◌, subst, arith, append-nil, length-append}
 use Rattle.std.specs.Prelude.{Result, Ok, Err, IfOk, not}
-use Rattle.rpp_tree.specs.declared.tree.Ident.{Ident}
-use Rattle.rpp_tree.specs.declared.tree.Var.{Var}
-use Rattle.rpp_tree.specs.Tree.{Null, Lvalue, Whole, Creation, Object, Statements, New, Delete, End, Then, joined}
+use Rattle.refine_objects.specs.rpp_tree.declared.tree.Ident.{Ident}
+use Rattle.refine_objects.specs.rpp_tree.declared.tree.Var.{Var}
+use Rattle.refine_objects.specs.rpp_tree.Tree.{Null, Lvalue, Whole, Creation, Object, Statements, New, Delete, End, Then, joined}
 use Rattle.branch_codegen.specs.class_rules.Expressions.{is_int}
 use Rattle.branch_codegen.specs.class_rules.Scope.{kind_of}
 use Rattle.branch_codegen.specs.class_rules.Table.{table_of, class_of}

@@ -6,15 +6,15 @@ use Rattle.std.specs.Prelude.{Result, Ok, Err, IfOk, Box}
 use Rattle.std.specs.declared.alloc.Global.{Global}
 use Rattle.std.specs.Option.{option_map}
 use Rattle.branch_codegen.specs.code_conventions.declared.memory.TheConstants.{MOST_VARIABLES}
-use Rattle.rpp_tree.specs.declared.tree.Ident.{Ident}
-use Rattle.rpp_tree.specs.declared.tree.Expr.{Expr}
-use Rattle.rpp_tree.specs.declared.tree.Place.{Place}
-use Rattle.rpp_tree.specs.declared.tree.Var.{Var}
-use Rattle.rpp_tree.specs.declared.tree.VarType.{VarType}
-use Rattle.rpp_tree.specs.declared.tree.VarType.TheVariants as type
-use Rattle.rpp_tree.specs.Tree.{Expression, Null, Lvalue, Whole, Item, Swap, Call, End, Then, Source}
-use Rattle.rpp_tree.specs.Places.{place_name}
-use Rattle.rpp_tree.specs.Views.{lvalue_with, lvalue_of, source_of}
+use Rattle.refine_objects.specs.rpp_tree.declared.tree.Ident.{Ident}
+use Rattle.refine_objects.specs.rpp_tree.declared.tree.Expr.{Expr}
+use Rattle.refine_objects.specs.rpp_tree.declared.tree.Place.{Place}
+use Rattle.refine_objects.specs.rpp_tree.declared.tree.Var.{Var}
+use Rattle.refine_objects.specs.rpp_tree.declared.tree.VarType.{VarType}
+use Rattle.refine_objects.specs.rpp_tree.declared.tree.VarType.TheVariants as type
+use Rattle.refine_objects.specs.rpp_tree.Tree.{Expression, Null, Lvalue, Whole, Item, Swap, Call, End, Then, Source}
+use Rattle.refine_objects.specs.rpp_tree.Places.{place_name}
+use Rattle.refine_objects.specs.rpp_tree.Views.{lvalue_with, lvalue_of, source_of}
 use Rattle.branch_codegen.specs.class_rules.declared.kind.Kind.TheVariants as kind
 use Rattle.branch_codegen.specs.class_rules.Expressions.{is_int}
 use Rattle.branch_codegen.specs.class_rules.Inheritance.{kind_of_var}

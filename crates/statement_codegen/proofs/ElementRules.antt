@@ -5,9 +5,9 @@ use Rattle.std.specs.Prelude.{nat_eq, is_some, not, ◌||◌, if◌then◌else�
 use Rattle.std.specs.Option.{unwrap_or}
 use Rattle.std.specs.Str.{bytes_eq}
 use Rattle.std.specs.List.{list_any}
-use Rattle.rpp_tree.specs.declared.tree.Ident.{Ident}
-use Rattle.rpp_tree.specs.declared.tree.Var.{Var}
-use Rattle.rpp_tree.specs.Tree.{Expression, Number, Null, Variable, Element, Binary, Whole, Item}
+use Rattle.refine_objects.specs.rpp_tree.declared.tree.Ident.{Ident}
+use Rattle.refine_objects.specs.rpp_tree.declared.tree.Var.{Var}
+use Rattle.refine_objects.specs.rpp_tree.Tree.{Expression, Number, Null, Variable, Element, Binary, Whole, Item}
 use Rattle.branch_codegen.specs.class_rules.declared.kind.Kind.{Kind}
 use Rattle.branch_codegen.specs.class_rules.declared.kind.Kind.TheVariants as kind
 use Rattle.branch_codegen.specs.class_rules.Overrides.{parameters_of}

@@ -11,8 +11,8 @@ use Rattle.std.proofs.lemmas.List.{drop-append-le, take-append-le, take_all, len
 use Rattle.std.proofs.lemmas.List.Folds.{list_any-append}
 use Rattle.std.proofs.lemmas.List.Sorted.{IsPermutation-refl, IsPermutation-trans, IsPermutation-append}
 use Rattle.std.proofs.lemmas.List.Sorted.{IsPermutation-append_comm, IsPermutation-append_right, IsPermutation-to_front}
-use Rattle.rpp_tree.specs.Tree.{Statement}
-use Rattle.rpp_tree.specs.Places.{statement_place}
+use Rattle.refine_objects.specs.rpp_tree.Tree.{Statement}
+use Rattle.refine_objects.specs.rpp_tree.Places.{statement_place}
 use Rattle.branch_codegen.specs.pisa_isa.declared.notes.Mark.{Mark}
 use Rattle.branch_codegen.specs.paired_code.declared.part.Symbol.{Symbol}
 use Rattle.branch_codegen.specs.paired_code.Code.{Code, moved_on, shift, seq_code, marked_code}

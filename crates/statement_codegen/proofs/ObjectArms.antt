@@ -1,14 +1,14 @@
 -- The arms of statements that copy references, and that make objects and arrays or give them back.
 use Rattle.std.proofs.Common.{◌≡◌, ℕ, ◌+◌, ◌*◌, ◌≤◌, [], length, refl, sym, subst, ◌∙◌, ap, arith}
 use Rattle.std.specs.Prelude.{Result, Ok, Err, IfOk}
-use Rattle.rpp_tree.specs.declared.tree.VarType.{VarType}
-use Rattle.rpp_tree.specs.declared.tree.Ident.{Ident}
-use Rattle.rpp_tree.specs.declared.tree.Var.{Var}
-use Rattle.rpp_tree.specs.declared.tree.VarType.TheVariants as type
-use Rattle.rpp_tree.specs.Tree.{Lvalue, Whole, Creation, Object, Ints, Objects, Statement, Statements, Construct, New}
-use Rattle.rpp_tree.specs.Tree.{Delete, Copy, Uncopy, index_nodes, creation_nodes}
-use Rattle.rpp_tree.specs.Views.{source_of}
-use Rattle.rpp_tree.specs.Parts.{creation_tokens, lvalue_tokens}
+use Rattle.refine_objects.specs.rpp_tree.declared.tree.VarType.{VarType}
+use Rattle.refine_objects.specs.rpp_tree.declared.tree.Ident.{Ident}
+use Rattle.refine_objects.specs.rpp_tree.declared.tree.Var.{Var}
+use Rattle.refine_objects.specs.rpp_tree.declared.tree.VarType.TheVariants as type
+use Rattle.refine_objects.specs.rpp_tree.Tree.{Lvalue, Whole, Creation, Object, Ints, Objects, Statement, Statements, Construct, New}
+use Rattle.refine_objects.specs.rpp_tree.Tree.{Delete, Copy, Uncopy, index_nodes, creation_nodes}
+use Rattle.refine_objects.specs.rpp_tree.Views.{source_of}
+use Rattle.refine_objects.specs.rpp_tree.Parts.{creation_tokens, lvalue_tokens}
 use Rattle.branch_codegen.specs.paired_code.Code.{Code, unmarked}
 use Rattle.branch_codegen.specs.paired_code.Layout.{mirror_cells}
 use Rattle.branch_codegen.proofs.paired_code_laws.Mirrored.{length_mirror}

@@ -1,12 +1,12 @@
 -- The codes of copies, and of objects and arrays that are made and given back, are those of their
 -- statements, if the rules of types pass these and the limits let them through.
 use Rattle.std.proofs.Common.{◌≡◌, ℕ, ◌+◌, ◌≤◌, List, length, sym, subst, arith}
-use Rattle.rpp_tree.specs.declared.tree.VarType.{VarType}
-use Rattle.rpp_tree.specs.declared.tree.Ident.{Ident}
-use Rattle.rpp_tree.specs.declared.tree.VarType.TheVariants as type
-use Rattle.rpp_tree.specs.Tree.{Lvalue, Whole, Creation, Object, Ints, Objects, Statements, Construct, New, Delete}
-use Rattle.rpp_tree.specs.Tree.{Copy, Uncopy, Source, creation_nodes, index_nodes}
-use Rattle.rpp_tree.specs.Views.{source_of}
+use Rattle.refine_objects.specs.rpp_tree.declared.tree.VarType.{VarType}
+use Rattle.refine_objects.specs.rpp_tree.declared.tree.Ident.{Ident}
+use Rattle.refine_objects.specs.rpp_tree.declared.tree.VarType.TheVariants as type
+use Rattle.refine_objects.specs.rpp_tree.Tree.{Lvalue, Whole, Creation, Object, Ints, Objects, Statements, Construct, New, Delete}
+use Rattle.refine_objects.specs.rpp_tree.Tree.{Copy, Uncopy, Source, creation_nodes, index_nodes}
+use Rattle.refine_objects.specs.rpp_tree.Views.{source_of}
 use Rattle.branch_codegen.specs.paired_code.declared.part.Symbol.{Symbol}
 use Rattle.branch_codegen.specs.paired_code.Layout.{mirror_cells}
 use Rattle.branch_codegen.specs.code_scope.Visible.{Visible, Known, spot_of, free_words_of, known_in}

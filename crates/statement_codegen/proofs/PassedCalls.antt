@@ -5,9 +5,9 @@ use Rattle.std.proofs.Common.{◌∙◌, arith}
 use Rattle.std.proofs.lemmas.Bool.{eqb-true}
 use Rattle.std.specs.Prelude.{nat_eq, is_some, Ok}
 use Rattle.std.specs.Option.{unwrap_or, is_none, ok_or}
-use Rattle.rpp_tree.specs.declared.tree.Ident.{Ident}
-use Rattle.rpp_tree.specs.declared.tree.Var.{Var}
-use Rattle.rpp_tree.specs.Tree.{Lvalue, Whole, Source}
+use Rattle.refine_objects.specs.rpp_tree.declared.tree.Ident.{Ident}
+use Rattle.refine_objects.specs.rpp_tree.declared.tree.Var.{Var}
+use Rattle.refine_objects.specs.rpp_tree.Tree.{Lvalue, Whole, Source}
 use Rattle.branch_codegen.specs.class_rules.declared.kind.Kind.{Kind}
 use Rattle.branch_codegen.specs.class_rules.declared.kind.Kind.TheVariants as kind
 use Rattle.branch_codegen.specs.class_rules.Overrides.{parameters_of}

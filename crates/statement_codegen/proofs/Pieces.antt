@@ -3,14 +3,14 @@ use Rattle.std.proofs.Common.{◌≡◌, ℕ, ◌+◌, ◌*◌, ◌<◌, ◌≤�
 use Rattle.std.proofs.Common.{length-append, append_assoc, append-nil}
 use Rattle.std.proofs.lemmas.List.Sorted.{length_permutation}
 use Rattle.branch_codegen.specs.code_conventions.declared.memory.TheConstants.{MOST_VARIABLES}
-use Rattle.rpp_tree.specs.declared.tree.Ident.{Ident}
-use Rattle.rpp_tree.specs.declared.tree.Var.{Var}
-use Rattle.rpp_tree.specs.declared.tree.VarType.TheVariants as type
-use Rattle.rpp_tree.specs.Tree.{Expression, Number, Null, Variable, Element, Binary, Lvalue, Whole, Item, Object}
-use Rattle.rpp_tree.specs.Tree.{Statement, Statements, Update, If, From, Construct, Local, New, End, Then}
-use Rattle.rpp_tree.specs.Places.{statement_place}
-use Rattle.rpp_tree.specs.Views.{source_of}
-use Rattle.rpp_tree.specs.Parts.{expression_tokens, lvalue_tokens, statement_tokens, block_tokens}
+use Rattle.refine_objects.specs.rpp_tree.declared.tree.Ident.{Ident}
+use Rattle.refine_objects.specs.rpp_tree.declared.tree.Var.{Var}
+use Rattle.refine_objects.specs.rpp_tree.declared.tree.VarType.TheVariants as type
+use Rattle.refine_objects.specs.rpp_tree.Tree.{Expression, Number, Null, Variable, Element, Binary, Lvalue, Whole, Item, Object}
+use Rattle.refine_objects.specs.rpp_tree.Tree.{Statement, Statements, Update, If, From, Construct, Local, New, End, Then}
+use Rattle.refine_objects.specs.rpp_tree.Places.{statement_place}
+use Rattle.refine_objects.specs.rpp_tree.Views.{source_of}
+use Rattle.refine_objects.specs.rpp_tree.Parts.{expression_tokens, lvalue_tokens, statement_tokens, block_tokens}
 use Rattle.branch_codegen.specs.pisa_isa.declared.notes.Mark.{Mark}
 use Rattle.branch_codegen.specs.paired_code.declared.part.Symbol.{Symbol}
 use Rattle.branch_codegen.specs.paired_code.Code.{Code, shift, unmarked, seq_code, marked_code}

@@ -1,7 +1,7 @@
 -- The code of `skip`: a cell that does nothing.
 use Rattle.std.proofs.Common.{◌≡◌, ℕ, suc, ◌+◌, ◌*◌, ◌≤◌, Bool, true, false, List, refl, sym, subst, arith}
 use Rattle.std.specs.Prelude.{Result, Ok, Err, IfOk}
-use Rattle.rpp_tree.specs.Tree.{Skip}
+use Rattle.refine_objects.specs.rpp_tree.Tree.{Skip}
 use Rattle.branch_codegen.specs.pisa_isa.declared.cell.Op.TheVariants.{Xori}
 use Rattle.branch_codegen.specs.pisa_isa.declared.cell.Cell.{Cell}
 use Rattle.branch_codegen.specs.paired_code.Code.{Code}

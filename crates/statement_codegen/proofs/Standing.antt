@@ -3,13 +3,13 @@ use Rattle.std.proofs.Common.{ℕ, List, [], ◌∷◌, ◌++◌, length, refl, 
 use Rattle.std.specs.Prelude.{All}
 use Rattle.std.proofs.lemmas.List.{take_at, drop_at}
 use Rattle.std.proofs.lemmas.List.Elements.{All-take, All-drop}
-use Rattle.rpp_tree.specs.declared.tree.Ident.{Ident}
-use Rattle.rpp_tree.specs.declared.tree.Var.{Var}
-use Rattle.rpp_tree.specs.declared.tree.VarType.TheVariants as type
-use Rattle.rpp_tree.specs.Tree.{Expression, Statement, Statements, Update, If, From, Construct, Local, Then}
-use Rattle.rpp_tree.specs.Places.{statement_place}
-use Rattle.rpp_tree.specs.Views.{source_of}
-use Rattle.rpp_tree.specs.Parts.{expression_places, var_places, statement_places, block_places}
+use Rattle.refine_objects.specs.rpp_tree.declared.tree.Ident.{Ident}
+use Rattle.refine_objects.specs.rpp_tree.declared.tree.Var.{Var}
+use Rattle.refine_objects.specs.rpp_tree.declared.tree.VarType.TheVariants as type
+use Rattle.refine_objects.specs.rpp_tree.Tree.{Expression, Statement, Statements, Update, If, From, Construct, Local, Then}
+use Rattle.refine_objects.specs.rpp_tree.Places.{statement_place}
+use Rattle.refine_objects.specs.rpp_tree.Views.{source_of}
+use Rattle.refine_objects.specs.rpp_tree.Parts.{expression_places, var_places, statement_places, block_places}
 use Rattle.branch_codegen.specs.class_rules.Scope.{Typing, Locals}
 use Rattle.branch_codegen.specs.class_rules.Statements.{test_rules, local_rules, construct_rules, with_local}
 use Rattle.branch_codegen.specs.class_rules.Statements.{with_object}

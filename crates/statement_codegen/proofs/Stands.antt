@@ -6,13 +6,13 @@ use Rattle.std.specs.Prelude.{Ok, not, ◌&&◌, ◌||◌, if◌then◌else◌}
 use Rattle.std.specs.Option.{is_none}
 use Rattle.std.specs.Str.{bytes_eq}
 use Rattle.branch_codegen.specs.code_conventions.declared.memory.TheConstants.{MOST_VARIABLES}
-use Rattle.rpp_tree.specs.declared.tree.Var.{Var}
-use Rattle.rpp_tree.specs.declared.tree.VarType.{VarType}
-use Rattle.rpp_tree.specs.declared.tree.VarType.TheVariants as type
-use Rattle.rpp_tree.specs.declared.tree.UpdateOp.{UpdateOp}
-use Rattle.rpp_tree.specs.Tree.{Expression, Number, Null, Variable, Element, Binary, Lvalue, Statements, Update, Swap}
-use Rattle.rpp_tree.specs.Tree.{If, From, Local, Source, nodes}
-use Rattle.rpp_tree.specs.Views.{source_of}
+use Rattle.refine_objects.specs.rpp_tree.declared.tree.Var.{Var}
+use Rattle.refine_objects.specs.rpp_tree.declared.tree.VarType.{VarType}
+use Rattle.refine_objects.specs.rpp_tree.declared.tree.VarType.TheVariants as type
+use Rattle.refine_objects.specs.rpp_tree.declared.tree.UpdateOp.{UpdateOp}
+use Rattle.refine_objects.specs.rpp_tree.Tree.{Expression, Number, Null, Variable, Element, Binary, Lvalue, Statements, Update, Swap}
+use Rattle.refine_objects.specs.rpp_tree.Tree.{If, From, Local, Source, nodes}
+use Rattle.refine_objects.specs.rpp_tree.Views.{source_of}
 use Rattle.branch_codegen.specs.class_rules.declared.kind.Kind.{Kind}
 use Rattle.branch_codegen.specs.class_rules.declared.kind.Kind.TheVariants as kind
 use Rattle.branch_codegen.specs.class_rules.Overrides.{is_type_int, same_type}
@@ -46,7 +46,7 @@ use Rattle.statement_codegen.specs.Codes.{scope_of, with_variable, IsStatementCo
 use Rattle.branch_codegen.specs.Laws.{IfLaw, FromLaw}
 use Rattle.statement_codegen.specs.Laws.{LocalLaw}
 
-pub laid_out : (place : Place) (routine : ℕ → Rattle.rpp_tree.specs.declared.tree.Ident.Ident → ℕ)
+pub laid_out : (place : Place) (routine : ℕ → Rattle.refine_objects.specs.rpp_tree.declared.tree.Ident.Ident → ℕ)
     → IsLinked place routine → IsLaidOut place
 laid_out place routine linked = record { accepted = linked.accepted; few = linked.routed.few }
 

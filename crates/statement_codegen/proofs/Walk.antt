@@ -3,16 +3,16 @@ use Rattle.std.proofs.Common.{◌≡◌, ℕ, zero, suc, ◌+◌, ◌*◌, ◌<�
 use Rattle.std.proofs.Common.{◌∙◌, subst, arith}
 use Rattle.std.proofs.Math.ListN.{get_or, drop_of_length-le}
 use Rattle.std.proofs.Math.Seq.{drop-cons}
-use Rattle.rpp_tree.specs.declared.tree.Stmt.{Stmt}
-use Rattle.rpp_tree.specs.declared.tree.Ident.{Ident}
-use Rattle.rpp_tree.specs.declared.tree.Var.{Var}
-use Rattle.rpp_tree.specs.Tree.{Expression, Statement, Statements, If, From, Construct, Local, End, Then}
-use Rattle.rpp_tree.specs.Parts.{statement_tokens, block_tokens}
-use Rattle.rpp_tree.specs.Views.{statement_of, statements_of}
+use Rattle.refine_objects.specs.rpp_tree.declared.tree.Stmt.{Stmt}
+use Rattle.refine_objects.specs.rpp_tree.declared.tree.Ident.{Ident}
+use Rattle.refine_objects.specs.rpp_tree.declared.tree.Var.{Var}
+use Rattle.refine_objects.specs.rpp_tree.Tree.{Expression, Statement, Statements, If, From, Construct, Local, End, Then}
+use Rattle.refine_objects.specs.rpp_tree.Parts.{statement_tokens, block_tokens}
+use Rattle.refine_objects.specs.rpp_tree.Views.{statement_of, statements_of}
 use Rattle.branch_codegen.specs.pisa_isa.declared.notes.TheConstants.{LAST_PLACE}
 use Rattle.branch_codegen.specs.paired_code.Code.{Code, unmarked, seq_code, marked_code}
 use Rattle.branch_codegen.specs.code_scope.Visible.{Visible}
-use Rattle.rpp_tree.specs.Places.{statement_place}
+use Rattle.refine_objects.specs.rpp_tree.Places.{statement_place}
 use Rattle.statement_codegen.specs.Pieces.{StatementStands, StandsIn, InnerPiece, BlockPiece}
 use Rattle.statement_codegen.proofs.Standing.{own_place, first_stands, rest_stands}
 use Rattle.statement_codegen.proofs.Pieces.{LeadsOn, leads_first, leads_next, leads_last, IsMaking}

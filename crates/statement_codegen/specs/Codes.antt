@@ -1,11 +1,11 @@
 -- What the code of statements, blocks and methods does wherever an image of its program is linked.
 use Rattle.std.specs.Prelude.{◌≡◌, ℕ, ◌+◌, ◌≤◌, List, ◌∷◌, length}
-use Rattle.rpp_tree.specs.declared.tree.Ident.{Ident}
-use Rattle.rpp_tree.specs.declared.tree.Var.{Var}
-use Rattle.rpp_tree.specs.declared.limits.TheConstants.{MOST_NODES}
-use Rattle.rpp_tree.specs.Limits.{statement_locals}
-use Rattle.rpp_tree.specs.Tree.{Statement, Statements, Procedure, statement_nodes}
-use Rattle.rpp_tree.specs.Views.{source_of}
+use Rattle.refine_objects.specs.rpp_tree.declared.tree.Ident.{Ident}
+use Rattle.refine_objects.specs.rpp_tree.declared.tree.Var.{Var}
+use Rattle.refine_objects.specs.rpp_tree.declared.limits.TheConstants.{MOST_NODES}
+use Rattle.refine_objects.specs.rpp_tree.Limits.{statement_locals}
+use Rattle.refine_objects.specs.rpp_tree.Tree.{Statement, Statements, Procedure, statement_nodes}
+use Rattle.refine_objects.specs.rpp_tree.Views.{source_of}
 use Rattle.branch_codegen.specs.class_rules.Statements.{verdict_passed, check_statement}
 use Rattle.branch_codegen.specs.meaning_sound.Plain.{StatementHasWords}
 use Rattle.branch_codegen.specs.paired_code.declared.part.Symbol.{Symbol}

@@ -3,12 +3,12 @@
 -- `construct`, of calls and of methods does in each image that is linked of its program.
 use Rattle.std.specs.Prelude.{◌≡◌, ℕ, ◌<◌, Bool, List, ◌++◌, length, Option, Some}
 use Rattle.std.specs.Option.{option_map}
-use Rattle.rpp_tree.specs.declared.tree.Ident.{Ident}
-use Rattle.rpp_tree.specs.declared.tree.Var.{Var}
-use Rattle.rpp_tree.specs.declared.tree.VarType.{VarType}
-use Rattle.rpp_tree.specs.declared.tree.VarType.TheVariants as type
-use Rattle.rpp_tree.specs.Tree.{Expression, Null, Lvalue, Whole, Item, Object, Statements}
-use Rattle.rpp_tree.specs.Tree.{Local, Construct, New, Call, Skip, Procedure}
+use Rattle.refine_objects.specs.rpp_tree.declared.tree.Ident.{Ident}
+use Rattle.refine_objects.specs.rpp_tree.declared.tree.Var.{Var}
+use Rattle.refine_objects.specs.rpp_tree.declared.tree.VarType.{VarType}
+use Rattle.refine_objects.specs.rpp_tree.declared.tree.VarType.TheVariants as type
+use Rattle.refine_objects.specs.rpp_tree.Tree.{Expression, Null, Lvalue, Whole, Item, Object, Statements}
+use Rattle.refine_objects.specs.rpp_tree.Tree.{Local, Construct, New, Call, Skip, Procedure}
 use Rattle.branch_codegen.specs.paired_code.declared.part.Symbol.{Symbol}
 use Rattle.branch_codegen.specs.roopl_semantics.Execution.{constructed, element_call, element_name}
 use Rattle.branch_codegen.specs.meaning_sound.Plain.{ReceiverIsPlain}

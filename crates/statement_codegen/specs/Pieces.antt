@@ -1,11 +1,11 @@
 -- The blocks of which code is made, and the fragments of their statements.
 use Rattle.std.specs.Prelude.{◌≡◌, ℕ, ◌+◌, ◌*◌, ◌<◌, ◌≤◌, List, length, All}
-use Rattle.rpp_tree.specs.declared.tree.Ident.{Ident}
-use Rattle.rpp_tree.specs.declared.limits.TheConstants.{MOST_BYTES}
-use Rattle.rpp_tree.specs.Tree.{Statement, Statements, Source}
-use Rattle.rpp_tree.specs.Views.{source_of}
-use Rattle.rpp_tree.specs.Parts.{statement_places, block_places, statement_tokens, block_tokens}
-use Rattle.rpp_tree.specs.Limits.{locals, AreSmall, AreInnerSmall}
+use Rattle.refine_objects.specs.rpp_tree.declared.tree.Ident.{Ident}
+use Rattle.refine_objects.specs.rpp_tree.declared.limits.TheConstants.{MOST_BYTES}
+use Rattle.refine_objects.specs.rpp_tree.Tree.{Statement, Statements, Source}
+use Rattle.refine_objects.specs.rpp_tree.Views.{source_of}
+use Rattle.refine_objects.specs.rpp_tree.Parts.{statement_places, block_places, statement_tokens, block_tokens}
+use Rattle.refine_objects.specs.rpp_tree.Limits.{locals, AreSmall, AreInnerSmall}
 use Rattle.branch_codegen.specs.class_rules.Statements.{verdict_passed, check_statements}
 use Rattle.branch_codegen.specs.paired_code.declared.part.Symbol.{Symbol}
 use Rattle.branch_codegen.specs.paired_code.Code.{Code}

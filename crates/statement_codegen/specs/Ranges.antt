@@ -3,8 +3,8 @@ use Rattle.std.specs.Prelude.{◌≡◌, ℕ, ◌-◌, ◌<◌, ◌≤◌, ◌�
 use Rattle.std.specs.Prelude.{[], ◌∷◌, length, take, drop, All}
 use Rattle.std.specs.List.{list_any, AllZip}
 use Rattle.std.specs.List.Sorted.{IsPermutation}
-use Rattle.rpp_tree.specs.Tree.{Statement}
-use Rattle.rpp_tree.specs.Places.{statement_place}
+use Rattle.refine_objects.specs.rpp_tree.Tree.{Statement}
+use Rattle.refine_objects.specs.rpp_tree.Places.{statement_place}
 use Rattle.branch_codegen.specs.pisa_isa.declared.notes.Mark.{Mark}
 use Rattle.branch_codegen.specs.paired_code.declared.part.Symbol.{Symbol}
 use Rattle.branch_codegen.specs.paired_code.Code.{Code}

@@ -1,7 +1,7 @@
 -- The statements of a block in the order of the text, each in its scope.
 use Rattle.std.specs.Prelude.{ℕ, List, [], ◌∷◌, ◌++◌, length}
-use Rattle.rpp_tree.specs.declared.tree.VarType.TheVariants as type
-use Rattle.rpp_tree.specs.Tree.{Statement, Statements, Walk, walk, walk_block}
+use Rattle.refine_objects.specs.rpp_tree.declared.tree.VarType.TheVariants as type
+use Rattle.refine_objects.specs.rpp_tree.Tree.{Statement, Statements, Walk, walk, walk_block}
 use Rattle.refine_form.specs.Form.{Scope, with_var}
 
 -- a statement, its scope, and the number of statements in it

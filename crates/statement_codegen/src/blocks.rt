@@ -1,9 +1,9 @@
 // The code of blocks, and of each of their statements.
 ghost use Rattle.std.specs.Prelude.{◌≡◌, ◌*◌, ◌≤◌, Some, length, IfOk, OnOk};
-ghost use Rattle.rpp_tree.specs.Parts.{block_tokens};
-ghost use Rattle.rpp_tree.specs.Places.{statement_place};
-ghost use Rattle.rpp_tree.specs.Tree.{Call};
-ghost use Rattle.rpp_tree.specs.Views.{lvalue_of, optional_lvalue_of, statement_of, block_of};
+ghost use Rattle.refine_objects.specs.rpp_tree.Parts.{block_tokens};
+ghost use Rattle.refine_objects.specs.rpp_tree.Places.{statement_place};
+ghost use Rattle.refine_objects.specs.rpp_tree.Tree.{Call};
+ghost use Rattle.refine_objects.specs.rpp_tree.Views.{lvalue_of, optional_lvalue_of, statement_of, block_of};
 ghost use Rattle.branch_codegen.specs.pisa_isa.declared.notes.TheConstants.{LAST_PLACE};
 ghost use Rattle.branch_codegen.specs.paired_code.Code.{seq_code, marked_code};
 ghost use Rattle.statement_codegen.specs.Codes.{IsBlockCode};
@@ -14,11 +14,9 @@ use crate::calls::{call_code, skip_code};
 use crate::elements::element_call_code;
 use crate::locals::{construct_code, local_code, making_piece, object_var};
 use branch_codegen::{Scope, from_code, if_code, swap_code, update_code};
-use paired_code::{Piece, empty, marked, mirror, seq};
-use refine_objects::{copy_code, new_code};
-use rpp_tree::place_of;
-use rpp_tree::tree::{Block, Ident, Place, Stmt};
-use rpp_words::NoMemory;
+use refine_form::{NoMemory, Piece, empty, marked, mirror, seq};
+use refine_objects::tree::{Block, Ident, Place};
+use refine_objects::{Stmt, copy_code, new_code, place_of};
 use std::alloc::Global;
 
 /// The code of a block in this scope: the code of its statements, one after the other, with a mark

@@ -2,7 +2,7 @@
 ghost use Rattle.std.specs.Prelude.{◌≡◌, ◌<◌, ◌≤◌, ◌^◌, ◌+◌, ◌*◌, [], Some, None, map, length, IfOk};
 ghost use Rattle.std.specs.List.{All};
 ghost use Rattle.std.specs.Option.{option_map, unwrap_or};
-ghost use Rattle.rpp_tree.specs.Views.{source_of};
+ghost use Rattle.refine_objects.specs.rpp_tree.Views.{source_of};
 ghost use Rattle.branch_codegen.specs.class_rules.Table.{table_of, class_of, slot_in};
 ghost use Rattle.branch_codegen.specs.class_rules.Scope.{kind_of};
 ghost use Rattle.refine_form.specs.Held.{HoldsCode};
@@ -13,13 +13,9 @@ ghost use Rattle.statement_codegen.specs.Codes.{scope_of};
 ghost use Rattle.statement_codegen.specs.Laws.{SkipLaw, CallLaw, RoutineLaw};
 
 use branch_codegen::{Scope, Spot, spot_of};
-use class_table::ClassTable;
-use method_calls::{call_on, own_call};
-use paired_code::{Piece, plain};
-use pisa_isa::{Cell, Op};
-use rpp_tree::Text;
-use rpp_tree::tree::{Ident, VarType};
-use rpp_words::NoMemory;
+use refine_form::{Cell, NoMemory, Op, Piece, plain};
+use refine_objects::tree::{Ident, VarType};
+use refine_objects::{ClassTable, Text, call_on, own_call};
 use std::alloc::Global;
 
 /// The code of `skip`: one cell that does nothing. The only error is that memory ran out.
@@ -197,5 +193,5 @@ pub fn method_code(alloc: Global, body: Piece, _scope: &Scope) -> Result<Piece, 
     ensures held { IfOk result (λ p. HoldsCode body p) }
     ensures size { IfOk result (λ p. length p.cells ≡ length body.cells + 8) }
 {
-    method_calls::method_code(alloc, body)
+    refine_objects::method_code(alloc, body)
 }

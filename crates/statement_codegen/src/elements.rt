@@ -1,9 +1,9 @@
 // Calls on elements of arrays.
 ghost use Rattle.std.specs.Prelude.{◌≡◌, ◌<◌, ◌≤◌, ◌+◌, ◌*◌, [], Some, length, IfOk, OnOk};
 ghost use Rattle.std.specs.Option.{option_map};
-ghost use Rattle.rpp_tree.specs.Places.{place_name};
-ghost use Rattle.rpp_tree.specs.Tree.{Whole};
-ghost use Rattle.rpp_tree.specs.Views.{lvalue_of};
+ghost use Rattle.refine_objects.specs.rpp_tree.Places.{place_name};
+ghost use Rattle.refine_objects.specs.rpp_tree.Tree.{Whole};
+ghost use Rattle.refine_objects.specs.rpp_tree.Views.{lvalue_of};
 ghost use Rattle.branch_codegen.specs.code_conventions.declared.memory.TheConstants.{MOST_VARIABLES};
 ghost use Rattle.branch_codegen.specs.code_scope.Visible.{spot_of as spot_of_name, free_words_of, kind_named, known_in};
 ghost use Rattle.branch_codegen.specs.expr_uncompute.Code.{place_words as words_of_place};
@@ -15,11 +15,10 @@ ghost use Rattle.statement_codegen.specs.Laws.{element_type as type_of_element, 
 use crate::calls::call_code;
 use crate::locals::local_code;
 use branch_codegen::{Scope, swap_code};
-use code_conventions::memory::EXPRESSION_WORDS;
-use paired_code::{Piece, seq};
-use rpp_tree::Text;
-use rpp_tree::tree::{Expr, Ident, Place, Var, VarType};
-use rpp_words::NoMemory;
+use refine_form::memory::EXPRESSION_WORDS;
+use refine_form::{NoMemory, Piece, seq};
+use refine_objects::tree::{Ident, Place, Var, VarType};
+use refine_objects::{Expr, Text};
 use std::alloc::Global;
 
 // The type of the elements of an array of references; int for any other type.

@@ -14,4 +14,7 @@ mod locals;
 pub use blocks::block_code;
 pub use branch_codegen::Scope;
 pub use calls::method_code;
-pub use method_calls::main_code;
+pub use refine_form::{
+    FieldName, NoMemory, NoteText, Noted, Notes, Piece, StaticWord, link, memory,
+};
+pub use refine_objects::{main_code, tree};

@@ -1,9 +1,9 @@
 // Blocks with a local variable, and those of `construct`.
 ghost use Rattle.std.specs.Prelude.{◌≡◌, ◌≤◌, ◌+◌, ◌*◌, [], ◌++◌, length, IfOk};
 ghost use Rattle.branch_codegen.specs.paired_code.Layout.{mirror_cells};
-ghost use Rattle.rpp_tree.specs.declared.tree.VarType.TheVariants.{Class};
-ghost use Rattle.rpp_tree.specs.Tree.{Object, Whole};
-ghost use Rattle.rpp_tree.specs.Views.{expression_of, source_of};
+ghost use Rattle.refine_objects.specs.rpp_tree.declared.tree.VarType.TheVariants.{Class};
+ghost use Rattle.refine_objects.specs.rpp_tree.Tree.{Object, Whole};
+ghost use Rattle.refine_objects.specs.rpp_tree.Views.{expression_of, source_of};
 ghost use Rattle.branch_codegen.specs.code_scope.Visible.{spot_of, free_words_of, known_in};
 ghost use Rattle.branch_codegen.specs.register_expressions.Code.{words as words_of};
 ghost use Rattle.branch_codegen.specs.register_expressions.Steps.{token_count};
@@ -12,13 +12,11 @@ ghost use Rattle.refine_objects.specs.object_codegen.Creations.{NewLaw, creation
 ghost use Rattle.statement_codegen.specs.Laws.{LocalLaw, ConstructLaw};
 
 use branch_codegen::{Scope, value_code};
-use code_conventions::memory::EXPRESSION_WORDS;
-use code_conventions::registers::VALUE;
-use method_calls::local_block;
-use paired_code::{Piece, mirror, seq};
-use refine_objects::class_code;
-use rpp_tree::tree::{Expr, Ident, Place, Var, VarType};
-use rpp_words::NoMemory;
+use refine_form::memory::EXPRESSION_WORDS;
+use refine_form::registers::VALUE;
+use refine_form::{NoMemory, Piece, mirror, seq};
+use refine_objects::tree::{Ident, Place, Var, VarType};
+use refine_objects::{Expr, class_code, local_block};
 use std::alloc::Global;
 
 /// The code of `local var = value body delocal var = last`, over the piece of its block, which is

@@ -4,8 +4,8 @@ ghost use Rattle.roopl_semantics.specs.rpp_tree.Views.{source_of};
 ghost use Rattle.roopl_semantics.specs.Layout.{table_at as address_of, table_addresses as addresses_of};
 
 use class_table::Checked;
-use code_conventions::memory::{FIRST_FIELD, TABLE_HEADER};
-use rpp_tree::limits::{MOST_CLASSES, MOST_FIELDS, MOST_METHODS};
+use class_table::limits::{MOST_CLASSES, MOST_FIELDS, MOST_METHODS};
+use roopl_semantics::memory::{FIRST_FIELD, TABLE_HEADER};
 use std::alloc::{AllocError, Global};
 
 /// The address of a class's table.

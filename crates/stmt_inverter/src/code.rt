@@ -1,16 +1,15 @@
 // The inverses of statements and blocks.
 ghost use Rattle.std.specs.Prelude.{◌≡◌, not, if◌then◌else◌, IfOk};
-ghost use Rattle.rpp_tree.specs.Views.{statement_of, block_of};
+ghost use Rattle.tree_walks.specs.rpp_tree.Views.{statement_of, block_of};
 ghost use Rattle.inverse_rules.specs.Inverse.{inverse_statement_as, inverse_as, inverse_statement, inverse};
 
 use crate::form::{
     call, conditional, construct, copy_stmt, delete_stmt, invert_op, local, new_stmt, turns,
     uncopy_stmt, update,
 };
-use rpp_tree::tree::{Block, Stmt};
-use rpp_words::NoMemory;
 use std::alloc::Global;
-use tree_walks::copy_statement;
+use tree_walks::tree::Block;
+use tree_walks::{NoMemory, Stmt, copy_statement};
 
 /// The statement that undoes a statement.
 pub fn invert_stmt(alloc: Global, s: &Stmt) -> Result<Stmt, NoMemory>

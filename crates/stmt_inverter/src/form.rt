@@ -1,14 +1,14 @@
 // Statements of each form, with copies of their names, places and expressions.
 ghost use Rattle.std.specs.Prelude.{◌≡◌, IfOk};
-ghost use Rattle.rpp_tree.specs.Tree.{Update, If, From as FromLoop, Construct, Local, New, Delete, Copy as CopyTo, Uncopy, Call};
-ghost use Rattle.rpp_tree.specs.Views.{expression_of, lvalue_of, creation_of, optional_lvalue_of, statement_of, block_of};
+ghost use Rattle.tree_walks.specs.rpp_tree.Tree.{Update, If, From as FromLoop, Construct, Local, New, Delete, Copy as CopyTo, Uncopy, Call};
+ghost use Rattle.tree_walks.specs.rpp_tree.Views.{expression_of, lvalue_of, creation_of, optional_lvalue_of, statement_of, block_of};
 ghost use Rattle.inverse_rules.specs.Inverse.{inverse_operator};
 
-use rpp_tree::copy_names;
-use rpp_tree::tree::{Block, Expr, Ident, Made, Place, Stmt, UpdateOp, Var, VarType};
-use rpp_words::NoMemory;
 use std::alloc::Global;
-use tree_walks::{copy_expr, copy_made, copy_place, copy_receiver};
+use tree_walks::tree::{Block, Ident, Made, Place, UpdateOp, Var, VarType};
+use tree_walks::{
+    Expr, NoMemory, Stmt, copy_expr, copy_made, copy_names, copy_place, copy_receiver,
+};
 
 /// The operator of the update that undoes one.
 pub fn invert_op(op: UpdateOp) -> UpdateOp

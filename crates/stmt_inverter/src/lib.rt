@@ -7,4 +7,11 @@ mod form;
 mod whole;
 
 pub use code::{invert_block, invert_stmt};
+pub use tree_walks::{NoMemory, Text, alike, copy_program, depth, nodes, tree};
 pub use whole::invert_program;
+
+/// An alias hands on this enum, which contains itself: Rattle does not find one that is handed on by `pub use`.
+pub type Expr = tree_walks::Expr;
+
+/// An alias hands on this enum, which contains itself: Rattle does not find one that is handed on by `pub use`.
+pub type Stmt = tree_walks::Stmt;

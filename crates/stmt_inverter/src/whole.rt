@@ -1,13 +1,12 @@
 // The inverses of programs.
 ghost use Rattle.std.specs.Prelude.{◌≡◌, IfOk, map};
-ghost use Rattle.rpp_tree.specs.Views.{procedure_of, class_text_of, source_of};
+ghost use Rattle.tree_walks.specs.rpp_tree.Views.{procedure_of, class_text_of, source_of};
 ghost use Rattle.inverse_rules.specs.Inverse.{inverse_procedure, inverse_class, inverse_program};
 
 use crate::code::undo_block;
-use rpp_tree::tree::{Class, Method, Program};
-use rpp_tree::{copy_parent, copy_vars};
-use rpp_words::NoMemory;
 use std::alloc::Global;
+use tree_walks::tree::{Class, Method, Program};
+use tree_walks::{NoMemory, copy_parent, copy_vars};
 
 /// A method of the inverse program.
 fn invert_method(alloc: Global, method: &Method) -> Result<Method, NoMemory>

@@ -3,8 +3,8 @@ use Rattle.std.proofs.Common.{◌≡◌, ◌∙◌, sym, ap, subst, refl, ℕ, z
 use Rattle.std.proofs.Common.{map, length, arith}
 use Rattle.std.proofs.lemmas.List.{length-append}
 use Rattle.std.specs.Prelude.{nat_eq}
-use Rattle.rpp_tree.specs.declared.tree.VarType.{VarType}
-use Rattle.rpp_tree.specs.Tree.{Source}
+use Rattle.meaning_reached.specs.rpp_tree.declared.tree.VarType.{VarType}
+use Rattle.meaning_reached.specs.rpp_tree.Tree.{Source}
 use Rattle.refine_frame.specs.code_conventions.declared.memory.TheConstants.{COUNT_WORD, HEADER_WORDS}
 use Rattle.static_layout.specs.roopl_semantics.Store.{Value, Word, Nil, Name, Head, Object, Store, main_name}
 use Rattle.static_layout.specs.roopl_semantics.Store.{object_at}
@@ -78,9 +78,9 @@ module _ (program : Source) (store : Store) (base : ℕ) (blocks : List (ℕ × 
       (subst (λ ks. AllFit program store ks o.cells) (sym told.kinds) fit)
       (λ i l. ap (λ a. word_at mem (a + HEADER_WORDS + i)) m.at ∙ facts.part n i m.good l))
 
-  main_types : (f : Rattle.rpp_tree.specs.declared.tree.VarType.VarType
+  main_types : (f : Rattle.meaning_reached.specs.rpp_tree.declared.tree.VarType.VarType
       → Rattle.refine_frame.specs.class_rules.declared.kind.Kind.Kind)
-      (vars : List Rattle.rpp_tree.specs.declared.tree.Var.Var)
+      (vars : List Rattle.meaning_reached.specs.rpp_tree.declared.tree.Var.Var)
       → map f (types_of vars) ≡ map (λ var. f var.kind) vars
   main_types f [] = refl
   main_types f (var ∷ vars) = ap (λ z. f var.kind ∷ z) (main_types f vars)

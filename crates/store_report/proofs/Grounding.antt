@@ -6,7 +6,7 @@ use Rattle.std.proofs.lemmas.Option.{unwrap_or-slice_get}
 use Rattle.std.specs.Prelude.{slice_index, is_some}
 use Rattle.std.specs.Option.{option_map}
 use Rattle.refine_frame.specs.rpp_words.declared.input.FieldWord.{FieldWord}
-use Rattle.rpp_tree.specs.Tree.{Source}
+use Rattle.meaning_reached.specs.rpp_tree.Tree.{Source}
 use Rattle.refine_frame.specs.class_rules.Classes.{main_of}
 use Rattle.refine_frame.specs.class_rules.Program.{IsAccepted}
 use Rattle.refine_frame.specs.buddy_book.Place.{block_of, count_taken}

@@ -9,9 +9,9 @@ use Rattle.std.specs.Prelude.{nat_eq, not, is_none, ◌&&◌, ◌||◌, position
 use Rattle.std.specs.List.{list_any}
 use Rattle.std.specs.Option.{unwrap_or, option_map}
 use Rattle.indexmap.specs.IndexMap.{insert_entry}
-use Rattle.rpp_tree.specs.declared.tree.Var.{Var}
-use Rattle.rpp_tree.specs.declared.tree.VarType.{VarType}
-use Rattle.rpp_tree.specs.Tree.{Source}
+use Rattle.meaning_reached.specs.rpp_tree.declared.tree.Var.{Var}
+use Rattle.meaning_reached.specs.rpp_tree.declared.tree.VarType.{VarType}
+use Rattle.meaning_reached.specs.rpp_tree.Tree.{Source}
 use Rattle.refine_frame.specs.class_rules.Classes.{class_fields}
 use Rattle.refine_frame.specs.class_rules.Table.{Table, table_of, fields_in}
 use Rattle.refine_frame.proofs.class_rules_laws.Numbers.{length-each_below, each_below-get}
@@ -32,7 +32,7 @@ use Rattle.store_report.specs.Told.{object_told}
 use Rattle.store_report.specs.Leads.{Met, lead_of, leads_of, is_reference, address_met, is_unmet, meets_one, met_leads}
 use Rattle.store_report.specs.Leads.{class_at_table, leads_at, meets_behind, goes_on, walks, met_all}
 use Rattle.store_report.specs.Shown.{lead_value, values_by, head_by, addresses_of, cells_by, objects_by, report_by}
-use Rattle.rpp_tree.specs.declared.tree.VarType.TheVariants as type
+use Rattle.meaning_reached.specs.rpp_tree.declared.tree.VarType.TheVariants as type
 
 -- ---- what is among the met
 

@@ -7,12 +7,12 @@ use Rattle.std.specs.Str.{IsAscii}
 use Rattle.std.specs.Prelude.{nat_lt}
 use Rattle.std.proofs.lemmas.Bool.{ltb-true, ltb-false}
 use Rattle.std.proofs.lemmas.List.Elements.{All-head, All-tail, All-nil, All-cons, All-append}
-use Rattle.rpp_tree.specs.declared.tree.Ident.{Ident}
-use Rattle.rpp_tree.specs.declared.tree.Var.{Var}
+use Rattle.meaning_reached.specs.rpp_tree.declared.tree.Ident.{Ident}
+use Rattle.meaning_reached.specs.rpp_tree.declared.tree.Var.{Var}
 use Rattle.refine_frame.proofs.rpp_words_laws.AsciiNames.{name_bytes_ascii}
-use Rattle.rpp_tree.specs.Names.{IsName}
-use Rattle.rpp_tree.specs.Parts.{type_names, var_names, procedure_names, parent_names, class_names, source_names}
-use Rattle.rpp_tree.specs.Tree.{ClassText, Source}
+use Rattle.meaning_reached.specs.rpp_tree.Names.{IsName}
+use Rattle.meaning_reached.specs.rpp_tree.Parts.{type_names, var_names, procedure_names, parent_names, class_names, source_names}
+use Rattle.meaning_reached.specs.rpp_tree.Tree.{ClassText, Source}
 use Rattle.refine_frame.specs.class_rules.Chains.{class_line}
 use Rattle.refine_frame.specs.class_rules.First.{each_below}
 use Rattle.refine_frame.specs.class_rules.Members.{class_at, no_class, fields_along}

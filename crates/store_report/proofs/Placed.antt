@@ -1,7 +1,7 @@
 -- The code's report is the report from the cells.
 use Rattle.std.proofs.Common.{◌≡◌, ◌∙◌, ap, ℕ, List, arith}
-use Rattle.rpp_tree.specs.declared.tree.Var.{Var}
-use Rattle.rpp_tree.specs.Tree.{Source}
+use Rattle.meaning_reached.specs.rpp_tree.declared.tree.Var.{Var}
+use Rattle.meaning_reached.specs.rpp_tree.Tree.{Source}
 use Rattle.refine_frame.specs.class_rules.Table.{table_of}
 use Rattle.refine_frame.specs.class_rules.Program.{IsAccepted}
 use Rattle.static_layout.specs.roopl_semantics.Source.{main_fields}

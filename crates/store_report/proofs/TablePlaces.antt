@@ -4,7 +4,7 @@ use Rattle.std.proofs.Common.{length, Some, arith}
 use Rattle.std.proofs.lemmas.Bool.{ltb-true, ltb-false}
 use Rattle.std.specs.Prelude.{nat_eq, nat_lt, position}
 use Rattle.std.specs.Option.{option_map}
-use Rattle.rpp_tree.specs.Tree.{Source}
+use Rattle.meaning_reached.specs.rpp_tree.Tree.{Source}
 use Rattle.refine_frame.specs.class_rules.First.{each_below}
 use Rattle.refine_frame.proofs.class_rules_laws.Numbers.{length-each_below}
 use Rattle.static_layout.specs.roopl_semantics.Layout.{table_at}

@@ -5,10 +5,10 @@ use Rattle.std.proofs.lemmas.Bool.{eqb-true}
 use Rattle.std.specs.Prelude.{nat_eq, not, ◌&&◌, ◌||◌, replicate, if◌then◌else◌}
 use Rattle.std.specs.List.{list_any}
 use Rattle.std.specs.Option.{unwrap_or, option_map}
-use Rattle.rpp_tree.specs.declared.tree.Var.{Var}
-use Rattle.rpp_tree.specs.declared.tree.VarType.{VarType}
-use Rattle.rpp_tree.specs.declared.tree.VarType.TheVariants as type
-use Rattle.rpp_tree.specs.Tree.{Source}
+use Rattle.meaning_reached.specs.rpp_tree.declared.tree.Var.{Var}
+use Rattle.meaning_reached.specs.rpp_tree.declared.tree.VarType.{VarType}
+use Rattle.meaning_reached.specs.rpp_tree.declared.tree.VarType.TheVariants as type
+use Rattle.meaning_reached.specs.rpp_tree.Tree.{Source}
 use Rattle.refine_frame.specs.class_rules.declared.kind.Kind.{Kind}
 use Rattle.refine_frame.specs.class_rules.declared.kind.Kind.TheVariants as kind
 use Rattle.refine_frame.specs.class_rules.Classes.{class_fields}

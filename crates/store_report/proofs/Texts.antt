@@ -4,8 +4,8 @@ use Rattle.std.specs.Prelude.{nat_eq, position, codes, if◌then◌else◌}
 use Rattle.std.specs.Option.{unwrap_or, option_map}
 use Rattle.std.specs.Fmt.{decimal}
 use Rattle.refine_frame.specs.rpp_words.Texts.{line_end}
-use Rattle.rpp_tree.specs.declared.tree.Var.{Var}
-use Rattle.rpp_tree.specs.Tree.{Source}
+use Rattle.meaning_reached.specs.rpp_tree.declared.tree.Var.{Var}
+use Rattle.meaning_reached.specs.rpp_tree.Tree.{Source}
 use Rattle.refine_frame.specs.class_rules.Classes.{class_fields}
 use Rattle.static_layout.specs.roopl_semantics.Store.{Value, Word, Nil, Name, Head, OfClass, OfInts, OfObjects}
 use Rattle.static_layout.specs.roopl_semantics.Agreement.{renamed}

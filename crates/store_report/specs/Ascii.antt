@@ -1,8 +1,8 @@
 -- Names that can be printed byte by byte.
 use Rattle.std.specs.Prelude.{ℕ, All}
 use Rattle.std.specs.Str.{IsAscii}
-use Rattle.rpp_tree.specs.declared.tree.Var.{Var}
-use Rattle.rpp_tree.specs.Tree.{Source}
+use Rattle.meaning_reached.specs.rpp_tree.declared.tree.Var.{Var}
+use Rattle.meaning_reached.specs.rpp_tree.Tree.{Source}
 use Rattle.refine_frame.specs.class_rules.Members.{class_at}
 use Rattle.refine_frame.specs.class_rules.Table.{Table, fields_in}
 

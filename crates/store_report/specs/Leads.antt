@@ -5,9 +5,9 @@ use Rattle.std.specs.Prelude.{position, List, [], ◌∷◌, map, length, replic
 use Rattle.std.specs.Prelude.{slice_get, if◌then◌else◌}
 use Rattle.std.specs.Option.{unwrap_or}
 use Rattle.indexmap.specs.IndexMap.{insert_entry}
-use Rattle.rpp_tree.specs.declared.tree.Var.{Var}
-use Rattle.rpp_tree.specs.declared.tree.VarType.{VarType}
-use Rattle.rpp_tree.specs.declared.tree.VarType.TheVariants as type
+use Rattle.meaning_reached.specs.rpp_tree.declared.tree.Var.{Var}
+use Rattle.meaning_reached.specs.rpp_tree.declared.tree.VarType.{VarType}
+use Rattle.meaning_reached.specs.rpp_tree.declared.tree.VarType.TheVariants as type
 use Rattle.refine_frame.specs.class_rules.Table.{Table, class_of, fields_in}
 use Rattle.pisa_machine.specs.pisa_isa.Loaded.{statics_at}
 use Rattle.pisa_machine.specs.pisa_isa.Machine.{word_at}

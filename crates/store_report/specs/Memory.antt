@@ -2,7 +2,7 @@
 use Rattle.std.specs.Prelude.{◌≡◌, ℕ, List}
 use Rattle.refine_frame.specs.rpp_words.declared.input.FieldWord.{FieldWord}
 use Rattle.refine_frame.specs.rpp_words.declared.input.Limits.{Limits}
-use Rattle.rpp_tree.specs.Tree.{Source}
+use Rattle.meaning_reached.specs.rpp_tree.Tree.{Source}
 use Rattle.pisa_machine.specs.pisa_isa.Image.{Segments}
 use Rattle.pisa_machine.specs.pisa_isa.Loaded.{loaded}
 use Rattle.static_layout.specs.roopl_semantics.Store.{State}

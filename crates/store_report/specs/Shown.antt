@@ -1,7 +1,7 @@
 -- The text of what is met, as the code makes it.
 use Rattle.std.specs.Prelude.{ℕ, ◌+◌, List, [], ◌∷◌, ◌++◌, map, length, replicate, codes}
-use Rattle.rpp_tree.specs.declared.tree.Var.{Var}
-use Rattle.rpp_tree.specs.Tree.{Source}
+use Rattle.meaning_reached.specs.rpp_tree.declared.tree.Var.{Var}
+use Rattle.meaning_reached.specs.rpp_tree.Tree.{Source}
 use Rattle.refine_frame.specs.class_rules.Table.{Table, fields_in}
 use Rattle.static_layout.specs.roopl_semantics.Store.{Value, Word, Head, OfClass, OfInts, OfObjects}
 use Rattle.static_layout.specs.roopl_semantics.Report.{Text, number_shown, field_lines}

@@ -3,9 +3,9 @@
 use Rattle.std.specs.Prelude.{ℕ, ◌+◌, nat_eq, List, [], ◌∷◌, ◌++◌, length, map}
 use Rattle.std.specs.Prelude.{if◌then◌else◌}
 use Rattle.std.specs.Option.{unwrap_or}
-use Rattle.rpp_tree.specs.declared.tree.VarType.{VarType}
-use Rattle.rpp_tree.specs.declared.tree.VarType.TheVariants as kind
-use Rattle.rpp_tree.specs.Tree.{Source}
+use Rattle.meaning_reached.specs.rpp_tree.declared.tree.VarType.{VarType}
+use Rattle.meaning_reached.specs.rpp_tree.declared.tree.VarType.TheVariants as kind
+use Rattle.meaning_reached.specs.rpp_tree.Tree.{Source}
 use Rattle.refine_frame.specs.class_rules.Classes.{class_number}
 use Rattle.static_layout.specs.roopl_semantics.Store.{Value, Word, Nil, Name, Head, OfClass, OfInts, OfObjects}
 use Rattle.static_layout.specs.roopl_semantics.Store.{Object}

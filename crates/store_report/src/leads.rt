@@ -1,10 +1,10 @@
 // What cells lead to.
 ghost use Rattle.std.specs.Prelude.{◌≡◌, ◌≤◌, ◌<◌, length, position, nat_eq, IfSome};
-ghost use Rattle.rpp_tree.specs.declared.limits.TheConstants.{MOST_CLASSES};
+ghost use Rattle.meaning_reached.specs.rpp_tree.declared.limits.TheConstants.{MOST_CLASSES};
 ghost use Rattle.store_report.specs.Leads.{lead_of as lead_told, is_reference, class_at_table};
 
-use class_table::ClassTable;
-use rpp_tree::tree::VarType;
+use static_layout::ClassTable;
+use static_layout::tree::VarType;
 
 /// What a cell leads to: nothing if it holds an int, an object, an array of ints, or an array of
 /// references to objects of a class.

@@ -10,3 +10,7 @@ mod walking;
 
 pub use lines::{add_bytes, add_live, add_name, add_word, class_name};
 pub use memories::report;
+pub use pisa_machine::{
+    Image, Input, Limits, MOST_DEEP, Machine, NoMemory, Probes, RunEnd, Steps, Stop, word_at,
+};
+pub use static_layout::{Checked, memory, tree};

@@ -1,12 +1,12 @@
 // The lines that a report of a store and a report of a memory have in common.
 ghost use Rattle.std.specs.Prelude.{◌≡◌, ◌++◌, string_bytes, OnOk};
 ghost use Rattle.std.specs.Str.{IsAscii};
-ghost use Rattle.rpp_tree.specs.Views.{source_of};
+ghost use Rattle.meaning_reached.specs.rpp_tree.Views.{source_of};
 ghost use Rattle.refine_frame.specs.class_rules.Members.{class_at};
 ghost use Rattle.static_layout.specs.roopl_semantics.Report.{signed_decimal, live_line};
 
-use rpp_tree::Text;
-use rpp_tree::tree::Program;
+use static_layout::Text;
+use static_layout::tree::Program;
 use std::alloc::AllocError;
 
 /// The line on how many objects are live besides the main object.

@@ -2,10 +2,10 @@
 ghost use Rattle.std.specs.Prelude.{◌≡◌, ◌≤◌, ◌<◌, ◌+◌, ◌^◌, ◌++◌, [], ℕ, All, List, length, map, replicate, string_bytes, OnOk, IfOk, codes};
 ghost use Rattle.std.specs.Str.{IsAscii};
 ghost use Rattle.std.specs.Fmt.{decimal};
-ghost use Rattle.rpp_tree.specs.declared.limits.TheConstants.{MOST_FIELDS, MOST_CLASSES};
+ghost use Rattle.meaning_reached.specs.rpp_tree.declared.limits.TheConstants.{MOST_FIELDS, MOST_CLASSES};
 ghost use Rattle.refine_frame.specs.rpp_words.declared.input.FieldWord.{FieldWord};
 ghost use Rattle.refine_frame.specs.rpp_words.Texts.{line_end};
-ghost use Rattle.rpp_tree.specs.Views.{source_of};
+ghost use Rattle.meaning_reached.specs.rpp_tree.Views.{source_of};
 ghost use Rattle.refine_frame.specs.class_rules.Members.{class_at};
 ghost use Rattle.refine_frame.specs.class_rules.Table.{fields_in};
 ghost use Rattle.static_layout.specs.roopl_semantics.Store.{State};
@@ -21,14 +21,11 @@ ghost use Rattle.store_report.specs.Told.{report_told};
 use crate::leads::{Lead, class_at_table, lead_of};
 use crate::lines::{add_bytes, add_live, add_name, add_word, class_name};
 use crate::walking::{Memory, met_all};
-use class_table::Checked;
-use code_conventions::memory::{COUNT_WORD, FIRST_FIELD, HEADER_WORDS};
 use indexmap::IndexMap;
-use pisa_machine::{Machine, word_at};
-use rpp_tree::Text;
-use rpp_tree::tree::{Program, Var};
-use rpp_words::NoMemory;
-use static_layout::table_addresses;
+use pisa_machine::{Machine, NoMemory, word_at};
+use static_layout::memory::{COUNT_WORD, FIRST_FIELD, HEADER_WORDS};
+use static_layout::tree::{Program, Var};
+use static_layout::{Checked, Text, table_addresses};
 use std::alloc::{AllocError, Global};
 
 /// The report of a machine's memory, by following the references in its cells from the main object

@@ -1,17 +1,16 @@
 // The walk of a memory: what is met from the main object on.
 ghost use Rattle.std.specs.Prelude.{◌≡◌, ◌≤◌, ◌<◌, ◌+◌, ◌^◌, length, replicate, OnOk, IfOk};
-ghost use Rattle.rpp_tree.specs.declared.limits.TheConstants.{MOST_FIELDS, MOST_CLASSES};
+ghost use Rattle.meaning_reached.specs.rpp_tree.declared.limits.TheConstants.{MOST_FIELDS, MOST_CLASSES};
 ghost use Rattle.refine_frame.specs.code_conventions.declared.memory.TheConstants.{FIRST_FIELD};
 ghost use Rattle.store_report.specs.declared.leads.Lead.TheVariants as lead;
 ghost use Rattle.store_report.specs.Leads.{meets_one, met_leads, leads_of, meets_behind, walks, met_all};
 
 use crate::leads::{Lead, class_at_table, lead_of};
-use class_table::ClassTable;
-use code_conventions::memory::{FIRST_FIELD, HEADER_WORDS};
 use indexmap::IndexMap;
-use pisa_machine::{Machine, word_at};
-use rpp_tree::tree::{Program, Var};
-use rpp_words::NoMemory;
+use pisa_machine::{Machine, NoMemory, word_at};
+use static_layout::ClassTable;
+use static_layout::memory::{FIRST_FIELD, HEADER_WORDS};
+use static_layout::tree::{Program, Var};
 use std::alloc::Global;
 
 /// A machine's memory, the program that ran on it, the program's class table, and the addresses of

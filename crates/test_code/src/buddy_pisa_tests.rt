@@ -2,9 +2,10 @@
 // its routine only.
 ghost use Rattle.std.specs.Prelude.{◌≢◌, ◌<◌, ◌^◌, length};
 
-use buddy_pisa::{BLOCK, ORDER, allocator};
-use paired_code::{Piece, cells_of, check_zero, empty, enter, link, marks_in, plain, seq};
-use pisa_isa::{Cell, Cells, Core, Image, Op, Stop, step};
+use buddy_pisa::{
+    BLOCK, Cell, Cells, Core, Image, ORDER, Op, Piece, Stop, allocator, cells_of, check_zero,
+    empty, enter, link, marks_in, plain, seq, step,
+};
 use std::alloc::Global;
 use std::process::Abort;
 use std::test::Fail;

@@ -2,10 +2,7 @@
 ghost use Rattle.std.specs.Prelude.{true, [], ◌∷◌, codes};
 
 use crate::serving::shelf_of;
-use rpp_command::rooplpp;
-use rpp_ports::MemorySink;
-use rpp_probes::{Coverage, Probe, Probes, StepTally};
-use rpp_words::NoMemory;
+use rpp_command::{Coverage, MemorySink, NoMemory, Probe, Probes, StepTally, rooplpp};
 use std::alloc::{AllocError, Global};
 use std::test::Fail;
 

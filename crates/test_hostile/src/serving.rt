@@ -1,7 +1,5 @@
 // A command over files in memory.
-use rpp_command::rooplpp;
-use rpp_ports::{MemoryShelf, MemorySink, Named};
-use rpp_probes::Probe;
+use rpp_command::{MemoryShelf, MemorySink, Named, Probe, rooplpp};
 use std::alloc::{AllocError, Global};
 
 // A file store with these files, whose calls with these numbers fail.

@@ -1,15 +1,15 @@
 // What probes say of a run of a hand-written image.
 ghost use Rattle.std.specs.Prelude.{◌≡◌};
 
-use pisa_isa::{Cell, Image, MOST_CELLS, Op, Stop};
-use pisa_machine::{Machine, RunEnd, Steps};
-use rpp_probes::{Coverage, DeepestPlace, Probe, Probes, StepTally};
 use std::alloc::Global;
 use std::marker::Brand;
 use std::process::Abort;
 use std::sync::ledger::{Blank, Ledger};
 use std::test::Fail;
-use two_way_debugger::Debugger;
+use two_way_debugger::{
+    Cell, Coverage, Debugger, DeepestPlace, Image, MOST_CELLS, Machine, Op, Probe, Probes, RunEnd,
+    StepTally, Steps, Stop,
+};
 
 fn cell(op: Op, a: u8, b: u8, imm: u32) -> Cell {
     Cell {

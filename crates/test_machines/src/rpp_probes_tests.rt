@@ -1,9 +1,8 @@
 // What probes say of the steps that they observe, one by one or together.
 ghost use Rattle.std.specs.Prelude.{false, [], ◌∷◌, codes};
 
-use rpp_probes::{Coverage, DeepestPlace, Probe, Probes, StepAt, StepTally};
-use rpp_words::NoMemory;
 use std::test::Fail;
+use two_way_debugger::{Coverage, DeepestPlace, NoMemory, Probe, Probes, StepAt, StepTally};
 
 // The counted steps of a run, some of them backward.
 const STEPS: [(u32, bool); 6] = [

@@ -1,8 +1,6 @@
 // The store of a finished run, as its readers have it.
-use class_table::Checked;
-use roopl_judge::judge;
-use rpp_words::{Input, Limits};
-use source_meaning::{Outcome, Store, interpret};
+use roopl_judge::{Checked, judge};
+use source_meaning::{Input, Limits, Outcome, Store, interpret};
 use std::alloc::Global;
 use std::process::Abort;
 use std::test::Fail;

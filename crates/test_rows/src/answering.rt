@@ -1,8 +1,7 @@
 // What the program answers.
-use rpp_command::rooplpp;
-use rpp_ports::{MemoryShelf, MemorySink};
-use rpp_probes::{Coverage, DeepestPlace, Probe, StepTally};
-use rpp_words::NoMemory;
+use rpp_command::{
+    Coverage, DeepestPlace, MemoryShelf, MemorySink, NoMemory, Probe, StepTally, rooplpp,
+};
 use std::alloc::Global;
 
 // The number of steps after which the probe of places ends, as in the program.

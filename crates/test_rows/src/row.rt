@@ -1,7 +1,7 @@
 // A row: files, commands, and what they print, answer and leave.
 use crate::answering::respond;
 use row_parts::{Answer, Fault, Numbers, ensure, files, holds, is_word, words};
-use rpp_ports::MemoryShelf;
+use rpp_command::MemoryShelf;
 use std::alloc::Global;
 
 /// Runs a row, and says how it differs from what its lines expect.

@@ -1,17 +1,16 @@
 // Trees that are copied, compared, counted and inverted.
 ghost use Rattle.std.specs.Prelude.{◌≡◌, IfOk};
-ghost use Rattle.rpp_tree.specs.Tree.{nodes as node_count, index_nodes, statement_nodes};
-ghost use Rattle.rpp_tree.specs.Views.{expression_of, lvalue_of, statement_of};
+ghost use Rattle.stmt_inverter.specs.rpp_tree.Tree.{nodes as node_count, index_nodes, statement_nodes};
+ghost use Rattle.stmt_inverter.specs.rpp_tree.Views.{expression_of, lvalue_of, statement_of};
 
-use class_table::Checked;
-use roopl_judge::judge;
-use rpp_tree::{BinOp, Block, Expr, Ident, Place, Program, Stmt, Text, UpdateOp};
-use rpp_words::NoMemory;
+use roopl_judge::{Checked, judge};
 use std::alloc::{AllocError, Global};
 use std::process::Abort;
 use std::test::Fail;
-use stmt_inverter::{invert_block, invert_stmt};
-use tree_walks::{alike, copy_program, depth, nodes};
+use stmt_inverter::tree::{BinOp, Block, Ident, Place, Program, UpdateOp};
+use stmt_inverter::{
+    Expr, NoMemory, Stmt, Text, alike, copy_program, depth, invert_block, invert_stmt, nodes,
+};
 
 const FIRST: &str = "class P int x int[] a method main() a[x = 0] += x = 1";
 

@@ -5,8 +5,7 @@ ghost use Rattle.command_plan.specs.Plans.{GivesPlan};
 ghost use Rattle.text_commands.specs.TextPlans.{Generates};
 
 use crate::writing::write_text;
-use command_plan::{NoPlan, Plan};
-use rpp_ports::Shelf;
+use command_plan::{NoPlan, Plan, Shelf};
 use std::alloc::Global;
 
 /// Writes the program of a seed and a number of items into a file. No file is read.

@@ -9,13 +9,10 @@ ghost use Rattle.command_plan.specs.Files.{OnlyReads, source_file};
 ghost use Rattle.text_commands.specs.TextPlans.{writes_text, IsInversePlan, ShowsInverse};
 
 use crate::writing::write_text;
-use class_table::Checked;
-use command_plan::{NoPlan, Plan, read_file, refuse_source};
-use roopl_judge::{SourceError, judge};
+use command_plan::limits::MOST_BYTES;
+use command_plan::{NoMemory, NoPlan, Plan, Shelf, read_file, refuse_source};
+use roopl_judge::{Checked, SourceError, judge};
 use roopl_printer::print;
-use rpp_ports::Shelf;
-use rpp_tree::MOST_BYTES;
-use rpp_words::NoMemory;
 use std::alloc::Global;
 use stmt_inverter::invert_program;
 

@@ -3,8 +3,7 @@ ghost use Rattle.std.specs.Prelude.{◌≡◌, IfOk, string_bytes};
 ghost use Rattle.command_plan.specs.Plans.{planned};
 ghost use Rattle.text_commands.specs.TextPlans.{writes_text};
 
-use command_plan::Plan;
-use rpp_words::NoMemory;
+use command_plan::{NoMemory, Plan};
 use std::alloc::Global;
 
 /// The plan that writes a text into a file, and prints how many bytes it has.

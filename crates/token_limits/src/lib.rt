@@ -4,4 +4,4 @@
 
 pub mod laws;
 
-pub use roopl_parser::{ParseError, parse};
+pub use roopl_parser::{LexError, ParseError, Token, lex, parse, tree};

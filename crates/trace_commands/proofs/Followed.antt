@@ -5,7 +5,7 @@ use Rattle.run_settings.specs.rpp_words.declared.input.Limits.{Limits}
 use Rattle.run_settings.specs.rpp_tree.declared.tree.Program.{Program}
 use Rattle.run_settings.specs.rpp_tree.Views.{source_of}
 use Rattle.run_settings.specs.roopl_semantics.Report.{Text}
-use Rattle.pisa_scripts.specs.declared.command.Command.{Command}
+use Rattle.debugger_scripts.specs.pisa_scripts.declared.command.Command.{Command}
 use Rattle.source_debugger.specs.source_courses.declared.running.TheConstants.{MOST_COST}
 use Rattle.source_debugger.specs.Shown.{told}
 use Rattle.source_debugger.specs.Standing.{Standing, trail_of, CommandsLead}

@@ -6,7 +6,7 @@ use Rattle.run_settings.specs.rpp_words.declared.input.FieldWord.{FieldWord}
 use Rattle.run_settings.specs.rpp_words.declared.input.Limits.{Limits}
 use Rattle.run_settings.specs.rpp_tree.Tree.{Source}
 use Rattle.run_settings.specs.rpp_ports.Ports.{Texts}
-use Rattle.pisa_scripts.specs.declared.command.Command.{Command}
+use Rattle.debugger_scripts.specs.pisa_scripts.declared.command.Command.{Command}
 use Rattle.debugger_scripts.specs.declared.error.ScriptError.{ScriptError}
 use Rattle.debugger_scripts.specs.declared.error.ScriptError.TheVariants.{BadCommand, NoMemory}
 use Rattle.debugger_scripts.specs.Scripts.{script_of}
@@ -14,7 +14,7 @@ use Rattle.run_settings.specs.command_plan.Plans.{Planned, WritesOnly}
 use Rattle.run_settings.proofs.command_plan_laws.Writes.{along}
 use Rattle.run_settings.proofs.RefusedRuns.{refused_writes}
 use Rattle.trace_commands.specs.TracePlans.{IsTraceScriptPlan, IsTracePlan, Traces}
-use Rattle.command_plan.specs.declared.plan.Room.{Room}
+use Rattle.run_settings.specs.command_plan.declared.plan.Room.{Room}
 
 script_writes : (read : Result (List Command) ScriptError) (program : Source) (limits : Limits) (input : List FieldWord)
     (p : Planned) → IsTraceScriptPlan read program limits input p → WritesOnly p None

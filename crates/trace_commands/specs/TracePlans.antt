@@ -7,7 +7,7 @@ use Rattle.run_settings.specs.rpp_tree.declared.limits.TheConstants.{MOST_BYTES}
 use Rattle.run_settings.specs.rpp_tree.Tree.{Source}
 use Rattle.run_settings.specs.rpp_ports.Ports.{Texts}
 use Rattle.source_debugger.specs.meaning_points.Trail.{trail}
-use Rattle.pisa_scripts.specs.declared.command.Command.{Command}
+use Rattle.debugger_scripts.specs.pisa_scripts.declared.command.Command.{Command}
 use Rattle.run_settings.specs.pisa_scripts.declared.lines.TheConstants.{MOST_SCRIPT}
 use Rattle.debugger_scripts.specs.declared.error.ScriptError.{ScriptError}
 use Rattle.debugger_scripts.specs.declared.error.ScriptError.TheVariants.{BadCommand}
@@ -18,7 +18,7 @@ use Rattle.run_settings.specs.command_plan.command_ends.declared.verdict.Verdict
 use Rattle.run_settings.specs.command_plan.Plans.{Planned, prints, WithText, WithInput}
 use Rattle.run_settings.specs.command_plan.Texts.{bad_command_line}
 use Rattle.run_settings.specs.Runnable.{RefusesRun, RunsTo}
-use Rattle.command_plan.specs.declared.plan.Room.{Room}
+use Rattle.run_settings.specs.command_plan.declared.plan.Room.{Room}
 
 -- the commands print this text along the run from its start on: there is fuel with which the run is
 -- known as far as they go

@@ -11,16 +11,12 @@ ghost use Rattle.run_settings.specs.rpp_ports.Ports.{IsTextOf};
 ghost use Rattle.run_settings.specs.command_plan.Files.{OnlyReads, source_file, input_files, script_file};
 ghost use Rattle.trace_commands.specs.TracePlans.{FollowsScript, IsTraceScriptPlan, IsTracePlan, Traces};
 
-use class_table::Checked;
-use command_plan::{
-    NoPlan, Plan, Room, Sizes, Verdict, bad_command_line, read_file, read_input_file,
+use debugger_scripts::{Command, MOST_SCRIPT, ScriptError, read_script};
+use run_settings::limits::MOST_BYTES;
+use run_settings::{
+    Checked, Input, Limits, NoMemory, NoPlan, Plan, Ready, Room, Shelf, Sizes, Verdict,
+    bad_command_line, read_file, read_input_file, ready,
 };
-use debugger_scripts::{ScriptError, read_script};
-use pisa_scripts::{Command, MOST_SCRIPT};
-use rpp_ports::Shelf;
-use rpp_tree::MOST_BYTES;
-use rpp_words::{Input, Limits, NoMemory};
-use run_settings::{Ready, ready};
 use source_debugger::SourceDebugger;
 use std::alloc::Global;
 

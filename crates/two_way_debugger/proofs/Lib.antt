@@ -1,3 +1,4 @@
+pub use Rattle.pisa_machine.proofs.rpp_probes_laws
 pub mod OneStep
 pub mod RunOn
 pub mod Walking

@@ -12,7 +12,7 @@ use Rattle.two_way_debugger.specs.declared.moves.Ending.TheVariants.{Made, Last,
 use Rattle.two_way_debugger.specs.Moves.{MachineWalk, moved_position, later_walk, unless_ended, machine_walk}
 use Rattle.two_way_debugger.proofs.OneStep.{same_position}
 use Rattle.pisa_machine.proofs.Legs.{end_of}
-use Rattle.pisa_isa.proofs.Reached.{counted-stop_at_bound}
+use Rattle.pisa_scripts.proofs.pisa_isa_laws.Reached.{counted-stop_at_bound}
 
 abbrev walked : Position → Ending → ℕ → MachineWalk
 walked q ending spent = record { position = q; ending = ending; spent = spent }

@@ -6,9 +6,8 @@ ghost use Rattle.two_way_debugger.specs.Shown.{walk_of, walk_shown, text_of, mos
 
 use crate::moves::make_moves;
 use crate::shown::{cell_text, register_text, walk_line};
-use pisa_machine::{Machine, Steps};
+use pisa_machine::{Machine, NoMemory, Steps};
 use pisa_scripts::Command;
-use rpp_words::NoMemory;
 use std::alloc::{AllocError, Global};
 use std::marker::Model;
 use std::sync::ledger::Ledger;

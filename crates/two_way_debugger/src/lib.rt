@@ -9,3 +9,8 @@ mod shown;
 
 pub use debugger::Debugger;
 pub use moves::LAST_POSITION;
+pub use pisa_machine::{
+    Coverage, DeepestPlace, FIXED_CELLS, FRAME_WORDS, HEADER_WORDS, Image, MOST_DEEP, MOST_HEAP,
+    Machine, NoMemory, Probe, Probes, RunEnd, StepAt, StepTally, Steps, word_at,
+};
+pub use pisa_scripts::{Cell, MOST_CELLS, Op, Stop};

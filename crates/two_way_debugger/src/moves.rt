@@ -2,8 +2,8 @@
 ghost use Rattle.std.specs.Prelude.{◌≡◌, ◌≤◌, ◌+◌, ℤ, Some, true, false, if◌then◌else◌, is_some};
 ghost use Rattle.two_way_debugger.specs.Moves.{moved_position, barrier, is_at as at_place, machine_walk, spent_by, MachineWalk};
 
-use pisa_isa::Stop;
 use pisa_machine::{Machine, Steps};
+use pisa_scripts::Stop;
 use std::sync::ledger::Ledger;
 
 /// The last position that a debugger moves to.

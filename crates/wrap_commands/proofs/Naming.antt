@@ -2,7 +2,7 @@
 use Rattle.std.proofs.Common.{◌≡◌, ◌∙◌, refl, sym, ap, ℕ, ◌+◌, ◌<◌, ◌≤◌, List, [], ◌∷◌, length, map, drop, get_or}
 use Rattle.std.proofs.Common.{length-drop, Result, Ok, Err, arith}
 use Rattle.std.proofs.lemmas.List.{nil_from_length, drop_more}
-use Rattle.pisa_loader.specs.declared.input.InputField.{InputField}
+use Rattle.command_plan.specs.pisa_loader.declared.input.InputField.{InputField}
 use Rattle.wrap_commands.specs.declared.error.NamesError.{NamesError}
 use Rattle.wrap_commands.specs.declared.error.NamesError.TheVariants.{UnknownResult, NoMemory}
 use Rattle.wrap_commands.specs.WrapNames.{field_of_name, with_result, results_from, NamesFail}

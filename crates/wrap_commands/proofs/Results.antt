@@ -11,13 +11,13 @@ use Rattle.std.proofs.lemmas.List.{length-map}
 use Rattle.std.proofs.lemmas.List.Elements.{All-head, All-tail, All-nil, All-cons, All-append}
 use Rattle.std.proofs.lemmas.Map.Keys.{IsDistinct-push}
 use Rattle.std.proofs.lemmas.Map.Made.{All-is_member, length-le_from_is_member}
-use Rattle.rpp_tree.specs.declared.tree.Var.{Var}
-use Rattle.rpp_tree.specs.Tree.{Source}
-use Rattle.class_table.specs.class_rules.Program.{IsAccepted}
-use Rattle.pisa_scripts.specs.Lines.{pieces}
+use Rattle.command_plan.specs.rpp_tree.declared.tree.Var.{Var}
+use Rattle.command_plan.specs.rpp_tree.Tree.{Source}
+use Rattle.command_plan.specs.class_rules.Program.{IsAccepted}
+use Rattle.command_plan.specs.pisa_scripts.Lines.{pieces}
 use Rattle.command_plan.specs.pisa_image.Numbers.{◌>>=◌}
-use Rattle.pisa_loader.specs.declared.input.InputField.{InputField}
-use Rattle.pisa_loader.specs.InputLines.{is_field}
+use Rattle.command_plan.specs.pisa_loader.declared.input.InputField.{InputField}
+use Rattle.command_plan.specs.pisa_loader.InputLines.{is_field}
 use Rattle.program_runs.specs.run_settings.roopl_semantics.Source.{main_fields, is_int_type, is_int_field}
 use Rattle.store_report.specs.Ascii.{HasAsciiName as HasAsciiVar}
 use Rattle.store_report.proofs.Names.{ascii_main_fields}

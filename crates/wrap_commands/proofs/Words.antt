@@ -5,7 +5,7 @@ use Rattle.std.specs.Prelude.{slice_index}
 use Rattle.std.specs.List.{All}
 use Rattle.std.specs.Option.{unwrap_or}
 use Rattle.std.proofs.lemmas.List.Elements.{All-head, All-tail}
-use Rattle.pisa_loader.specs.declared.input.InputField.{InputField}
+use Rattle.command_plan.specs.pisa_loader.declared.input.InputField.{InputField}
 use Rattle.program_runs.specs.run_settings.roopl_semantics.Store.{Value, Word, Nil}
 use Rattle.program_runs.specs.run_settings.roopl_semantics.Report.{signed_decimal, value_shown}
 use Rattle.refine_wrap.specs.Programs.{field_cell}

@@ -2,20 +2,20 @@
 use Rattle.std.proofs.Common.{ℕ, List, None, Some, Ok, Err, inl, refl}
 use Rattle.std.specs.declared.option.Option.{Option}
 use Rattle.std.specs.Prelude.{Result}
-use Rattle.rpp_words.specs.declared.input.FieldWord.{FieldWord}
-use Rattle.rpp_words.specs.declared.input.Limits.{Limits}
-use Rattle.rpp_words.specs.declared.input.TheConstants.{MOST_DEEP}
-use Rattle.rpp_tree.specs.Tree.{Source}
-use Rattle.rpp_ports.specs.Ports.{Texts}
-use Rattle.class_table.specs.class_rules.Refusal.{Refusal}
-use Rattle.pisa_isa.specs.declared.machine.Stop.{Stop}
-use Rattle.pisa_isa.specs.declared.machine.Stop.TheVariants.{Finished, Trap, Bound, Returned}
-use Rattle.pisa_isa.specs.declared.machine.Stop.TheVariants.{BadAddress, OffCode}
-use Rattle.pisa_isa.specs.Image.{Segments}
-use Rattle.pisa_isa.specs.Machine.{State}
-use Rattle.pisa_loader.specs.Limiting.{limits_refusal}
-use Rattle.pisa_loader.specs.declared.error.LoadError.{LoadError}
-use Rattle.pisa_loader.specs.declared.input.InputField.{InputField}
+use Rattle.command_plan.specs.rpp_words.declared.input.FieldWord.{FieldWord}
+use Rattle.command_plan.specs.rpp_words.declared.input.Limits.{Limits}
+use Rattle.command_plan.specs.rpp_words.declared.input.TheConstants.{MOST_DEEP}
+use Rattle.command_plan.specs.rpp_tree.Tree.{Source}
+use Rattle.command_plan.specs.rpp_ports.Ports.{Texts}
+use Rattle.command_plan.specs.class_rules.Refusal.{Refusal}
+use Rattle.store_report.specs.pisa_isa.declared.machine.Stop.{Stop}
+use Rattle.store_report.specs.pisa_isa.declared.machine.Stop.TheVariants.{Finished, Trap, Bound, Returned}
+use Rattle.store_report.specs.pisa_isa.declared.machine.Stop.TheVariants.{BadAddress, OffCode}
+use Rattle.store_report.specs.pisa_isa.Image.{Segments}
+use Rattle.store_report.specs.pisa_isa.Machine.{State}
+use Rattle.command_plan.specs.pisa_loader.Limiting.{limits_refusal}
+use Rattle.command_plan.specs.pisa_loader.declared.error.LoadError.{LoadError}
+use Rattle.command_plan.specs.pisa_loader.declared.input.InputField.{InputField}
 use Rattle.command_plan.specs.declared.plan.Sizes.{Sizes}
 use Rattle.command_plan.specs.Plans.{Planned, WritesOnly}
 use Rattle.command_plan.proofs.Writes.{along}

@@ -6,20 +6,20 @@ use Rattle.std.specs.List.{All}
 use Rattle.std.proofs.lemmas.Bool.{cases_lt}
 use Rattle.std.proofs.lemmas.List.{length-map}
 use Rattle.std.proofs.lemmas.List.Elements.{All-head, All-tail, All-nil, All-cons, All-map}
-use Rattle.rpp_words.specs.Words.{IsWord}
-use Rattle.rpp_words.specs.Limits.{IsLimits}
-use Rattle.rpp_words.specs.declared.input.FieldWord.{FieldWord}
-use Rattle.rpp_words.specs.declared.input.Limits.{Limits}
-use Rattle.rpp_tree.specs.Tree.{Source}
-use Rattle.class_table.specs.class_rules.Program.{IsAccepted}
-use Rattle.pisa_isa.specs.declared.cell.Cell.{Cell}
-use Rattle.pisa_isa.specs.declared.machine.Stop.{Stop}
-use Rattle.pisa_isa.specs.declared.machine.Stop.TheVariants.{Finished, Trap, Returned, BadAddress, OffCode, Bound}
-use Rattle.pisa_isa.specs.Image.{Segments, IsImage}
-use Rattle.pisa_isa.specs.Loaded.{loaded}
-use Rattle.pisa_isa.specs.Runs.{End, run, zero_registers}
-use Rattle.pisa_machine.specs.Position.{Position, IsMachine, first_position}
-use Rattle.pisa_loader.specs.declared.input.InputField.{InputField}
+use Rattle.command_plan.specs.rpp_words.Words.{IsWord}
+use Rattle.command_plan.specs.rpp_words.Limits.{IsLimits}
+use Rattle.command_plan.specs.rpp_words.declared.input.FieldWord.{FieldWord}
+use Rattle.command_plan.specs.rpp_words.declared.input.Limits.{Limits}
+use Rattle.command_plan.specs.rpp_tree.Tree.{Source}
+use Rattle.command_plan.specs.class_rules.Program.{IsAccepted}
+use Rattle.store_report.specs.pisa_isa.declared.cell.Cell.{Cell}
+use Rattle.store_report.specs.pisa_isa.declared.machine.Stop.{Stop}
+use Rattle.store_report.specs.pisa_isa.declared.machine.Stop.TheVariants.{Finished, Trap, Returned, BadAddress, OffCode, Bound}
+use Rattle.store_report.specs.pisa_isa.Image.{Segments, IsImage}
+use Rattle.store_report.specs.pisa_isa.Loaded.{loaded}
+use Rattle.store_report.specs.pisa_isa.Runs.{End, run, zero_registers}
+use Rattle.store_report.specs.pisa_machine.Position.{Position, IsMachine, first_position}
+use Rattle.command_plan.specs.pisa_loader.declared.input.InputField.{InputField}
 use Rattle.program_runs.specs.run_settings.roopl_semantics.Store.{main_name, object_at}
 use Rattle.program_runs.specs.run_settings.roopl_semantics.Source.{GivesFault, IsValid}
 use Rattle.program_runs.specs.run_settings.roopl_semantics.Layout.{layout}

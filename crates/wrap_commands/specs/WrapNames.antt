@@ -2,10 +2,10 @@
 use Rattle.std.specs.Prelude.{◌≡◌, ◌<◌, ◌+◌, ◌^◌, ℕ, if◌then◌else◌, List, [], ◌∷◌, ◌++◌, length}
 use Rattle.std.specs.Prelude.{map, Option, Some, None, Result, Ok, Err}
 use Rattle.std.specs.Str.{bytes_eq}
-use Rattle.pisa_scripts.specs.Lines.{pieces}
+use Rattle.command_plan.specs.pisa_scripts.Lines.{pieces}
 use Rattle.command_plan.specs.pisa_image.Numbers.{◌>>=◌}
-use Rattle.pisa_loader.specs.declared.input.InputField.{InputField}
-use Rattle.pisa_loader.specs.InputLines.{is_field}
+use Rattle.command_plan.specs.pisa_loader.declared.input.InputField.{InputField}
+use Rattle.command_plan.specs.pisa_loader.InputLines.{is_field}
 use Rattle.refine_wrap.specs.Programs.{field_cell}
 use Rattle.wrap_commands.specs.declared.error.NamesError.{NamesError}
 use Rattle.wrap_commands.specs.declared.error.NamesError.TheVariants.{UnknownResult, NoMemory}

@@ -3,29 +3,29 @@
 use Rattle.std.specs.Prelude.{◌≡◌, ℕ, ◌+◌, ◌<◌, ◌≤◌, List, ◌++◌, All, length, slice_get, None, Some}
 use Rattle.std.specs.Prelude.{Result, Ok, Err, IsTrue}
 use Rattle.std.specs.declared.option.Option.{Option}
-use Rattle.rpp_words.specs.declared.input.FieldWord.{FieldWord}
-use Rattle.rpp_words.specs.declared.input.Limits.{Limits}
-use Rattle.rpp_words.specs.declared.input.TheConstants.{MOST_DEEP}
-use Rattle.rpp_tree.specs.declared.limits.TheConstants.{MOST_BYTES}
-use Rattle.rpp_tree.specs.Tree.{Source}
-use Rattle.rpp_ports.specs.Ports.{Texts}
-use Rattle.class_table.specs.class_rules.Refusal.{Refusal}
-use Rattle.pisa_isa.specs.declared.machine.Stop.{Stop}
-use Rattle.pisa_isa.specs.declared.machine.Stop.TheVariants.{Finished, Trap}
-use Rattle.pisa_isa.specs.declared.machine.Stop.TheVariants.{Bound as AtBound}
-use Rattle.pisa_isa.specs.Image.{Segments, IsImage}
-use Rattle.pisa_isa.specs.Loaded.{loaded}
-use Rattle.pisa_isa.specs.Machine.{State as MachineState}
-use Rattle.pisa_isa.specs.Runs.{End}
-use Rattle.pisa_loader.specs.Limiting.{limits_refusal}
-use Rattle.pisa_loader.specs.declared.error.LoadError.{LoadError}
-use Rattle.pisa_loader.specs.declared.input.InputField.{InputField}
+use Rattle.command_plan.specs.rpp_words.declared.input.FieldWord.{FieldWord}
+use Rattle.command_plan.specs.rpp_words.declared.input.Limits.{Limits}
+use Rattle.command_plan.specs.rpp_words.declared.input.TheConstants.{MOST_DEEP}
+use Rattle.command_plan.specs.rpp_tree.declared.limits.TheConstants.{MOST_BYTES}
+use Rattle.command_plan.specs.rpp_tree.Tree.{Source}
+use Rattle.command_plan.specs.rpp_ports.Ports.{Texts}
+use Rattle.command_plan.specs.class_rules.Refusal.{Refusal}
+use Rattle.store_report.specs.pisa_isa.declared.machine.Stop.{Stop}
+use Rattle.store_report.specs.pisa_isa.declared.machine.Stop.TheVariants.{Finished, Trap}
+use Rattle.store_report.specs.pisa_isa.declared.machine.Stop.TheVariants.{Bound as AtBound}
+use Rattle.store_report.specs.pisa_isa.Image.{Segments, IsImage}
+use Rattle.store_report.specs.pisa_isa.Loaded.{loaded}
+use Rattle.store_report.specs.pisa_isa.Machine.{State as MachineState}
+use Rattle.store_report.specs.pisa_isa.Runs.{End}
+use Rattle.command_plan.specs.pisa_loader.Limiting.{limits_refusal}
+use Rattle.command_plan.specs.pisa_loader.declared.error.LoadError.{LoadError}
+use Rattle.command_plan.specs.pisa_loader.declared.input.InputField.{InputField}
 use Rattle.program_runs.specs.run_settings.roopl_semantics.Store.{main_name, object_at}
 use Rattle.program_runs.specs.run_settings.roopl_semantics.Source.{main_fields, is_int_field}
 use Rattle.program_runs.specs.run_settings.roopl_semantics.StandsFor.{StandsFor, EndsAt}
 use Rattle.refine_wrap.specs.bennett_wrap.Wrapped.{Wrapped}
 use Rattle.refine_wrap.specs.Programs.{EndsDone, wrapped_run, enough_wrapped}
-use Rattle.roopl_judge.specs.Judged.{IsJudged}
+use Rattle.program_runs.specs.roopl_judge.Judged.{IsJudged}
 use Rattle.command_plan.specs.declared.plan.Sizes.{Sizes}
 use Rattle.command_plan.specs.command_ends.declared.verdict.Verdict.TheVariants.{Done, Bound}
 use Rattle.command_plan.specs.command_ends.declared.verdict.Verdict.TheVariants.{InputRefused}

@@ -1,14 +1,14 @@
 -- What the plan of a wrapped run rests on.
 use Rattle.std.specs.Prelude.{◌≡◌, ℕ, List}
-use Rattle.rpp_words.specs.Limits.{IsLimits}
-use Rattle.rpp_words.specs.declared.input.FieldWord.{FieldWord}
-use Rattle.rpp_words.specs.declared.input.Limits.{Limits}
-use Rattle.rpp_tree.specs.Tree.{Source}
-use Rattle.class_table.specs.class_rules.Program.{IsAccepted}
-use Rattle.pisa_isa.specs.declared.machine.Stop.{Stop}
-use Rattle.pisa_isa.specs.Image.{Segments, IsImage}
-use Rattle.pisa_machine.specs.Position.{Position}
-use Rattle.pisa_loader.specs.declared.input.InputField.{InputField}
+use Rattle.command_plan.specs.rpp_words.Limits.{IsLimits}
+use Rattle.command_plan.specs.rpp_words.declared.input.FieldWord.{FieldWord}
+use Rattle.command_plan.specs.rpp_words.declared.input.Limits.{Limits}
+use Rattle.command_plan.specs.rpp_tree.Tree.{Source}
+use Rattle.command_plan.specs.class_rules.Program.{IsAccepted}
+use Rattle.store_report.specs.pisa_isa.declared.machine.Stop.{Stop}
+use Rattle.store_report.specs.pisa_isa.Image.{Segments, IsImage}
+use Rattle.store_report.specs.pisa_machine.Position.{Position}
+use Rattle.command_plan.specs.pisa_loader.declared.input.InputField.{InputField}
 use Rattle.program_runs.specs.run_settings.roopl_semantics.Source.{IsValid}
 use Rattle.refine_wrap.specs.Programs.{FollowsWrapped, wrapped_run}
 use Rattle.wrap_commands.specs.WrapNames.{result_cells}

@@ -3,11 +3,11 @@ use Rattle.std.specs.Prelude.{ℕ, suc, List, [], ◌∷◌, ◌++◌, codes, sl
 use Rattle.std.specs.Fmt.{decimal}
 use Rattle.std.specs.Option.{unwrap_or}
 use Rattle.std.specs.Str.{IsAscii}
-use Rattle.rpp_words.specs.Texts.{line_end}
-use Rattle.pisa_loader.specs.declared.input.InputField.{InputField}
+use Rattle.command_plan.specs.rpp_words.Texts.{line_end}
+use Rattle.command_plan.specs.pisa_loader.declared.input.InputField.{InputField}
 use Rattle.program_runs.specs.run_settings.roopl_semantics.Store.{Value, Nil}
 use Rattle.program_runs.specs.run_settings.roopl_semantics.Report.{signed_decimal, value_shown}
-use Rattle.pisa_isa.specs.Machine.{word_at}
+use Rattle.store_report.specs.pisa_isa.Machine.{word_at}
 
 -- a name that can be printed byte by byte
 abbrev pub HasAsciiFieldName : InputField → Type 0

@@ -1,11 +1,10 @@
 // The names of results.
 ghost use Rattle.std.specs.Prelude.{◌≡◌, ◌++◌, ◌∷◌, [], IfOk, MatchOption, Some, None};
-ghost use Rattle.pisa_loader.specs.InputLines.{is_field};
+ghost use Rattle.command_plan.specs.pisa_loader.InputLines.{is_field};
 ghost use Rattle.wrap_commands.specs.WrapNames.{field_of_name, with_result, results_of, NamesGive};
 
 use crate::error::NamesError;
-use pisa_loader::InputField;
-use pisa_scripts::pieces;
+use program_runs::{InputField, pieces};
 use std::alloc::{AllocError, Global};
 
 /// The fields that names joined by commas name, in the order of the names. The first name that no

@@ -1,10 +1,10 @@
 // `wrap F H D STEPS NAMES [INPUT]`: checks the arguments and the texts that they name.
 ghost use Rattle.std.specs.Prelude.{◌≡◌, ◌≤◌, ◌<◌, ◌+◌, ◌^◌, ◌∷◌, length, option_map, IfOk, IfErr, string_bytes};
-ghost use Rattle.rpp_tree.specs.Views.{source_of};
-ghost use Rattle.rpp_tree.specs.declared.limits.TheConstants.{MOST_BYTES};
-ghost use Rattle.rpp_words.specs.Limits.{IsLimits};
-ghost use Rattle.pisa_loader.specs.Limiting.{limits_refusal};
-ghost use Rattle.pisa_loader.specs.declared.input.TheConstants.{MOST_INPUT};
+ghost use Rattle.command_plan.specs.rpp_tree.Views.{source_of};
+ghost use Rattle.command_plan.specs.rpp_tree.declared.limits.TheConstants.{MOST_BYTES};
+ghost use Rattle.command_plan.specs.rpp_words.Limits.{IsLimits};
+ghost use Rattle.command_plan.specs.pisa_loader.Limiting.{limits_refusal};
+ghost use Rattle.command_plan.specs.pisa_loader.declared.input.TheConstants.{MOST_INPUT};
 ghost use Rattle.command_plan.specs.Files.{OnlyReads, UnreadCause, source_file, input_files};
 ghost use Rattle.command_plan.specs.Plans.{planned, GivesPlan};
 ghost use Rattle.program_runs.specs.run_settings.Inputs.{input_fields as fields_of, given_input};
@@ -15,17 +15,14 @@ use crate::error::NamesError;
 use crate::names::read_names;
 use crate::running::{WrapSetting, is_accepted, run_wrapped};
 use crate::shown::refuse_name;
-use class_table::Checked;
 use command_plan::{NoPlan, Plan, Sizes, Verdict, load_line, read_given, refuse_source};
-use pisa_loader::{InputField, LoadError, check_limits, read_input};
-use pisa_machine::Steps;
-use program_runs::input_fields;
-use roopl_judge::{SourceError, judge};
-use rpp_ports::Shelf;
-use rpp_tree::MOST_BYTES;
-use rpp_words::{Limits, MOST_DEEP, NoMemory};
+use program_runs::limits::MOST_BYTES;
+use program_runs::{
+    InputField, LoadError, Shelf, SourceError, check_limits, input_fields, judge, read_input,
+};
 use std::alloc::Global;
 use std::sync::ledger::Ledger;
+use store_report::{Checked, Limits, MOST_DEEP, NoMemory, Steps};
 
 // What a program is wrapped with: the names, the text of the input, and the sizes of the run.
 #[derive(Drop)]

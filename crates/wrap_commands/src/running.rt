@@ -1,8 +1,8 @@
 // The run of a wrapped image, and its plan.
 ghost use Rattle.std.specs.Prelude.{◌≡◌, ◌<◌, ◌≤◌, ◌+◌, ◌^◌, All, IfOk};
-ghost use Rattle.rpp_tree.specs.Views.{source_of};
-ghost use Rattle.rpp_words.specs.Limits.{IsLimits};
-ghost use Rattle.class_table.specs.class_rules.Program.{IsAccepted};
+ghost use Rattle.command_plan.specs.rpp_tree.Views.{source_of};
+ghost use Rattle.command_plan.specs.rpp_words.Limits.{IsLimits};
+ghost use Rattle.command_plan.specs.class_rules.Program.{IsAccepted};
 ghost use Rattle.program_runs.specs.run_settings.roopl_semantics.Source.{IsValid};
 ghost use Rattle.refine_wrap.specs.Programs.{field_cell as cell_of_field};
 ghost use Rattle.command_plan.specs.Plans.{planned};
@@ -11,17 +11,13 @@ ghost use Rattle.wrap_commands.specs.WrapPlans.{AreResults, TellsResults, TellsS
 ghost use Rattle.wrap_commands.specs.WrapRun.{HasWrapped};
 
 use crate::shown::{add_results, with_initial};
-use bennett_wrap::wrap_image;
-use class_table::Checked;
-use code_conventions::memory::FIRST_FIELD;
 use command_plan::{Plan, Verdict, report_bound, report_fault, with_steps};
-use pisa_isa::{Image, Stop};
-use pisa_loader::{InputField, load_more};
-use pisa_machine::{Machine, RunEnd, Steps};
-use program_runs::compiled_image;
-use rpp_words::{Input, Limits, NoMemory};
+use program_runs::{InputField, compiled_image, load_more};
+use refine_wrap::wrap_image;
 use std::alloc::{AllocError, Global};
 use std::sync::ledger::Ledger;
+use store_report::memory::FIRST_FIELD;
+use store_report::{Checked, Image, Input, Limits, Machine, NoMemory, RunEnd, Steps, Stop};
 
 /// What a wrapped run is made with: the sizes of heap and stack, the input, the fields whose words
 /// are its results, and the number of steps.

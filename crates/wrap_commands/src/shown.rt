@@ -6,9 +6,9 @@ ghost use Rattle.command_plan.specs.Plans.{planned, prints};
 ghost use Rattle.wrap_commands.specs.WrapShown.{HasAsciiFieldName, result_line, word_lines, initial_line, unknown_result_line};
 
 use command_plan::{Plan, Verdict};
-use pisa_loader::InputField;
-use pisa_machine::{Machine, word_at};
+use program_runs::InputField;
 use std::alloc::{AllocError, Global};
+use store_report::{Machine, word_at};
 
 /// Adds the lines of results whose words are in a memory from an address on.
 pub(crate) fn add_results(

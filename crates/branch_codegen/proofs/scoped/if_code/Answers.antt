@@ -1,4 +1,4 @@
-use Rattle.rpp_tree.specs.Views.{expression_of}
+use Rattle.refine_expressions.specs.rpp_tree.Views.{expression_of}
 use Rattle.refine_expressions.specs.code_scope.Visible.{known_in}
 use Rattle.branch_codegen.proofs.InScope.{if_returns}
 use Rattle.branch_codegen.proofs.scoped.if_code.Goals as goal

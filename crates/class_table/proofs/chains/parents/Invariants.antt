@@ -1,5 +1,5 @@
 use Rattle.std.proofs.Common.{◌≡◌, take, map}
-use Rattle.rpp_tree.specs.Views.{class_text_of}
+use Rattle.class_rules.specs.rpp_tree.Views.{class_text_of}
 use Rattle.class_rules.specs.Chains.{parent_named}
 use Rattle.class_table.proofs.chains.parents.Given as goal
 

@@ -1,5 +1,5 @@
 use Rattle.std.proofs.Common.{◌≡◌, drop, map}
-use Rattle.rpp_tree.specs.Views.{source_of, class_text_of}
+use Rattle.class_rules.specs.rpp_tree.Views.{source_of, class_text_of}
 use Rattle.class_rules.specs.First.{first_at}
 use Rattle.class_rules.specs.Members.{duplicate_field_at}
 use Rattle.class_table.proofs.fields.check_fields.Given as goal

@@ -1,6 +1,6 @@
 use Rattle.std.proofs.Common.{◌≡◌, ◌∙◌, sym, true}
 use Rattle.std.specs.Result.{is_ok}
-use Rattle.rpp_tree.specs.Views.{source_of, class_text_of}
+use Rattle.class_rules.specs.rpp_tree.Views.{source_of, class_text_of}
 use Rattle.class_rules.specs.Members.{class_fields, too_many_fields_at}
 use Rattle.class_rules.proofs.Numbers.{each_below-next, first_at-next}
 use Rattle.class_table.proofs.fields.fields.Goals as goal

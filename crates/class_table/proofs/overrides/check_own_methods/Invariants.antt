@@ -1,5 +1,5 @@
 use Rattle.std.proofs.Common.{◌≡◌, [], take, drop, map}
-use Rattle.rpp_tree.specs.Views.{procedure_of}
+use Rattle.class_rules.specs.rpp_tree.Views.{procedure_of}
 use Rattle.class_rules.specs.First.{first_after}
 use Rattle.class_rules.specs.Overrides.{method_name, method_taken}
 use Rattle.class_table.proofs.overrides.check_own_methods.Given as goal

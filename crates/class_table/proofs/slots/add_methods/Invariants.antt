@@ -1,5 +1,5 @@
 use Rattle.std.proofs.Common.{◌≡◌, drop, map}
-use Rattle.rpp_tree.specs.Views.{procedure_of}
+use Rattle.class_rules.specs.rpp_tree.Views.{procedure_of}
 use Rattle.class_rules.specs.Members.{with_methods}
 use Rattle.class_table.proofs.slots.add_methods.Given as goal
 

@@ -1,5 +1,5 @@
 use Rattle.std.proofs.Common.{◌≡◌, drop, map}
-use Rattle.rpp_tree.specs.Views.{source_of, class_text_of}
+use Rattle.class_rules.specs.rpp_tree.Views.{source_of, class_text_of}
 use Rattle.class_rules.specs.First.{first_at, each_below}
 use Rattle.class_rules.specs.Members.{too_many_slots_at, class_slots}
 use Rattle.class_table.proofs.slots.slots.Given as goal

@@ -1,5 +1,5 @@
 use Rattle.std.proofs.Common.{◌≡◌, [], drop}
-use Rattle.rpp_tree.specs.Views.{source_of}
+use Rattle.class_rules.specs.rpp_tree.Views.{source_of}
 use Rattle.class_rules.specs.Members.{slots_along}
 use Rattle.class_table.proofs.slots.slots_along.Given as goal
 

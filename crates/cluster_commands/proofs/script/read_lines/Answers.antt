@@ -4,7 +4,7 @@ use Rattle.cluster_commands.specs.ClusterScripts.{with_event_line, events_from}
 use Rattle.command_plan.specs.pisa_scripts.Lines.{pieces}
 use Rattle.cluster_commands.proofs.Reading.{fails_with, goes_on, stops, is_done}
 use Rattle.cluster_commands.proofs.script.read_lines.Goals as goal
-use Rattle.pisa_scripts.proofs.FewLines.{few_lines}
+use Rattle.command_plan.proofs.pisa_scripts_laws.FewLines.{few_lines}
 
 abbrev text_of : Bor (List ℕ) → List ℕ
 text_of line = line.now

@@ -1,7 +1,7 @@
 use Rattle.std.proofs.Common.{option_map, string_bytes, List, ℕ}
-use Rattle.roopl_judge.specs.rpp_tree.declared.limits.TheConstants.{MOST_BYTES}
-use Rattle.command_plan.specs.Plans.{planned, WithInput}
-use Rattle.command_plan.proofs.GivenTexts.{with_text, with_input}
+use Rattle.run_settings.specs.rpp_tree.declared.limits.TheConstants.{MOST_BYTES}
+use Rattle.run_settings.specs.command_plan.Plans.{planned, WithInput}
+use Rattle.run_settings.proofs.command_plan_laws.GivenTexts.{with_text, with_input}
 use Rattle.explain_commands.specs.Explained.{IsExplainPlan}
 use Rattle.explain_commands.proofs.explaining.explain.Goals as goal
 

@@ -1,7 +1,7 @@
 use Rattle.std.proofs.Common.{◌∙◌, List, subst}
-use Rattle.roopl_judge.specs.rpp_tree.Views.{source_of}
-use Rattle.command_plan.specs.pisa_loader.declared.input.InputField.{InputField}
-use Rattle.command_plan.specs.pisa_loader.InputLines.{AreInput}
+use Rattle.run_settings.specs.rpp_tree.Views.{source_of}
+use Rattle.run_settings.specs.pisa_loader.declared.input.InputField.{InputField}
+use Rattle.run_settings.specs.pisa_loader.InputLines.{AreInput}
 use Rattle.run_settings.proofs.ValidInput.{valid_input}
 use Rattle.explain_commands.proofs.explaining.explain_given.Goals as goal
 

@@ -1,4 +1,4 @@
-use Rattle.roopl_judge.specs.rpp_tree.Views.{source_of}
+use Rattle.run_settings.specs.rpp_tree.Views.{source_of}
 use Rattle.store_report.specs.roopl_semantics.Source.{source}
 use Rattle.explain_commands.proofs.Telling.{explains_run}
 use Rattle.explain_commands.proofs.explaining.explain_run.Goals as goal

@@ -1,6 +1,6 @@
 use Rattle.std.proofs.Common.{sym, subst}
 use Rattle.std.specs.Str.{IsAscii}
-use Rattle.roopl_judge.specs.rpp_tree.Views.{source_of}
+use Rattle.run_settings.specs.rpp_tree.Views.{source_of}
 use Rattle.store_report.proofs.Names.{ascii_class_name}
 use Rattle.explain_commands.proofs.stores.add_class.Goals as goal
 

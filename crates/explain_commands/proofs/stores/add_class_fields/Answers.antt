@@ -1,7 +1,7 @@
 use Rattle.std.proofs.Common.{◌∙◌, sym, ap, subst}
 use Rattle.std.specs.Prelude.{All}
-use Rattle.roopl_judge.specs.rpp_tree.Views.{source_of}
-use Rattle.roopl_judge.specs.class_rules.Table.{fields_in}
+use Rattle.run_settings.specs.rpp_tree.Views.{source_of}
+use Rattle.run_settings.specs.class_rules.Table.{fields_in}
 use Rattle.store_report.specs.Ascii.{HasAsciiName}
 use Rattle.store_report.proofs.Names.{ascii_class_fields}
 use Rattle.explain_commands.proofs.Lining.{lines_of}

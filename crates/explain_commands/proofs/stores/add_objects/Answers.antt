@@ -1,6 +1,6 @@
 use Rattle.std.proofs.Common.{sym, ◌∙◌}
 use Rattle.std.specs.Prelude.{string_bytes}
-use Rattle.roopl_judge.specs.rpp_tree.Views.{source_of}
+use Rattle.run_settings.specs.rpp_tree.Views.{source_of}
 use Rattle.explain_commands.proofs.Lining.{lists_on, lists_out, lists_all}
 use Rattle.explain_commands.proofs.stores.add_objects.Goals as goal
 

@@ -1,6 +1,6 @@
 use Rattle.std.proofs.Common.{◌≡◌, ◌++◌, drop}
 use Rattle.std.specs.Prelude.{string_bytes}
-use Rattle.roopl_judge.specs.rpp_tree.Views.{source_of}
+use Rattle.run_settings.specs.rpp_tree.Views.{source_of}
 use Rattle.store_report.specs.roopl_semantics.Report.{object_lines}
 use Rattle.explain_commands.proofs.stores.add_objects.Given as goal
 

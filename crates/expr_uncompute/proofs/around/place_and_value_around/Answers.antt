@@ -1,4 +1,4 @@
-use Rattle.rpp_tree.specs.Views.{expression_of, lvalue_of}
+use Rattle.register_expressions.specs.rpp_tree.Views.{expression_of, lvalue_of}
 use Rattle.expr_uncompute.proofs.Bounds.{found_value_most}
 use Rattle.expr_uncompute.proofs.around.place_and_value_around.Goals as goal
 

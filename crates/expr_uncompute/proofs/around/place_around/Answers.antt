@@ -1,4 +1,4 @@
-use Rattle.rpp_tree.specs.Views.{lvalue_of}
+use Rattle.register_expressions.specs.rpp_tree.Views.{lvalue_of}
 use Rattle.expr_uncompute.proofs.Bounds.{found_place_most}
 use Rattle.expr_uncompute.proofs.around.place_around.Goals as goal
 

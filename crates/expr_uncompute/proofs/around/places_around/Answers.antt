@@ -1,4 +1,4 @@
-use Rattle.rpp_tree.specs.Views.{lvalue_of}
+use Rattle.register_expressions.specs.rpp_tree.Views.{lvalue_of}
 use Rattle.expr_uncompute.proofs.Bounds.{found_places_most}
 use Rattle.expr_uncompute.proofs.around.places_around.Goals as goal
 

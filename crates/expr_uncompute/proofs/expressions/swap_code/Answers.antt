@@ -1,4 +1,4 @@
-use Rattle.rpp_tree.specs.Views.{lvalue_of}
+use Rattle.register_expressions.specs.rpp_tree.Views.{lvalue_of}
 use Rattle.expr_uncompute.proofs.Bounds.{swap_most}
 use Rattle.expr_uncompute.proofs.expressions.swap_code.Goals as goal
 

@@ -1,4 +1,4 @@
-use Rattle.rpp_tree.specs.Views.{expression_of}
+use Rattle.register_expressions.specs.rpp_tree.Views.{expression_of}
 use Rattle.expr_uncompute.proofs.Bounds.{test_most}
 use Rattle.expr_uncompute.proofs.expressions.test_code.Goals as goal
 

@@ -1,5 +1,5 @@
 use Rattle.std.proofs.Common.{rules}
-use Rattle.rpp_tree.specs.Views.{expression_of}
+use Rattle.register_expressions.specs.rpp_tree.Views.{expression_of}
 use Rattle.register_expressions.specs.paired_code.Code.{unmarked}
 use Rattle.register_expressions.proofs.paired_code_laws.Contract.{if_ok_law}
 use Rattle.register_expressions.specs.code_scope.Visible.{spot_of, free_words_of, known_by}

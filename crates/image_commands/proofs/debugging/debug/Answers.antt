@@ -6,7 +6,7 @@ use Rattle.command_plan.specs.Plans.{planned, WithText}
 use Rattle.command_plan.proofs.GivenTexts.{with_text}
 use Rattle.image_commands.specs.DebugPlans.{IsDebugPlan, IsDebugShort, DebugsFileShort}
 use Rattle.image_commands.proofs.debugging.debug.Goals as goal
-use Rattle.pisa_scripts.proofs.Errors.{on_err_always}
+use Rattle.command_plan.proofs.pisa_scripts_laws.Errors.{on_err_always}
 
 pub returns-clause-plan : goal.returns-clause-plan
 returns-clause-plan g c =

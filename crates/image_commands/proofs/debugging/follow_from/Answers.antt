@@ -3,7 +3,7 @@ use Rattle.two_way_debugger.specs.pisa_machine.Position.{Position}
 use Rattle.two_way_debugger.specs.Shown.{spent_in}
 use Rattle.image_commands.specs.DebugPlans.{MovesSome}
 use Rattle.image_commands.proofs.debugging.follow_from.Goals as goal
-use Rattle.pisa_scripts.proofs.Errors.{on_err_always}
+use Rattle.command_plan.proofs.pisa_scripts_laws.Errors.{on_err_always}
 
 pub returns-in_err-follow-clause-short : goal.returns-in_err-follow-clause-short
 returns-in_err-follow-clause-short g c =

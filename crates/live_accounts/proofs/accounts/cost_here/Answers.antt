@@ -1,5 +1,5 @@
 use Rattle.std.proofs.Common.{◌∙◌, sym, ap}
-use Rattle.source_execution.specs.Standing.{config_at}
+use Rattle.source_debugger.specs.source_execution.Standing.{config_at}
 use Rattle.live_accounts.specs.Accounts.{account_cost_line}
 use Rattle.live_accounts.proofs.accounts.cost_here.Goals as goal
 

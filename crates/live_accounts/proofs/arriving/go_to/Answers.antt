@@ -1,5 +1,5 @@
 use Rattle.std.proofs.Common.{◌-◌, refl}
-use Rattle.source_execution.specs.rpp_tree.Views.{source_of}
+use Rattle.source_debugger.specs.rpp_tree.Views.{source_of}
 use Rattle.live_accounts.specs.declared.arriving.Arrived.{Arrived}
 use Rattle.live_accounts.proofs.Going.{at_start, further, arrives_begun, arrives_over}
 use Rattle.live_accounts.proofs.arriving.go_to.Goals as goal

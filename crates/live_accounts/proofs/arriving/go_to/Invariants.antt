@@ -1,6 +1,6 @@
 use Rattle.std.proofs.Common.{◌+◌, ◌*◌, length}
-use Rattle.source_execution.specs.rpp_tree.Views.{source_of}
-use Rattle.source_execution.specs.Standing.{config_at}
+use Rattle.source_debugger.specs.rpp_tree.Views.{source_of}
+use Rattle.source_debugger.specs.source_execution.Standing.{config_at}
 use Rattle.live_accounts.proofs.Going.{HasGone}
 use Rattle.live_accounts.proofs.arriving.go_to.Given as goal
 

@@ -1,5 +1,5 @@
 use Rattle.std.proofs.Common.{length}
-use Rattle.source_execution.specs.meaning_machine.buddy_book.Shown.{list_at}
+use Rattle.source_debugger.specs.buddy_book.Shown.{list_at}
 use Rattle.live_accounts.specs.Takes.{free_in}
 use Rattle.live_accounts.proofs.Taking.{HasTaken}
 use Rattle.live_accounts.proofs.blocks.take_all.Given as goal

@@ -1,6 +1,6 @@
-use Rattle.source_execution.specs.roopl_semantics.Store.{OfInts}
-use Rattle.source_execution.specs.source_store.declared.value.Value.TheVariants as held
-use Rattle.source_execution.specs.source_store.ValueView.{values_of}
+use Rattle.source_debugger.specs.roopl_semantics.Store.{OfInts}
+use Rattle.source_debugger.specs.source_store.declared.value.Value.TheVariants as held
+use Rattle.source_debugger.specs.source_store.ValueView.{values_of}
 use Rattle.live_accounts.proofs.Taking.{so_many, takes_none, takes_one}
 use Rattle.live_accounts.proofs.blocks.take_one.Goals as goal
 

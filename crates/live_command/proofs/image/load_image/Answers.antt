@@ -1,7 +1,7 @@
 use Rattle.std.proofs.Common.{◌∙◌, ap, None, option_map, inr}
-use Rattle.two_way_debugger.specs.pisa_machine.Position.{Position}
+use Rattle.image_commands.specs.pisa_machine.Position.{Position}
 use Rattle.image_commands.specs.ImagePlans.{position_at_start}
-use Rattle.live_talks.specs.Limits.{held_run}
+use Rattle.live_images.specs.live_talks.Limits.{held_run}
 use Rattle.live_images.specs.Sessions.{held_in}
 use Rattle.live_command.proofs.Imaging.{machine_opens}
 use Rattle.live_command.proofs.image.load_image.Goals as goal

@@ -1,6 +1,6 @@
 use Rattle.std.proofs.Common.{refl}
-use Rattle.live_requests.specs.declared.request.Request.TheVariants.{Nothing, Carry, Spend, Stack, RegsOf, Fault}
-use Rattle.live_requests.specs.declared.request.Request.TheVariants.{FaultCells, Value, Heap, Bad}
+use Rattle.live_talks.specs.live_requests.declared.request.Request.TheVariants.{Nothing, Carry, Spend, Stack, RegsOf, Fault}
+use Rattle.live_talks.specs.live_requests.declared.request.Request.TheVariants.{FaultCells, Value, Heap, Bad}
 use Rattle.live_talks.specs.declared.ends.End.TheVariants as end
 use Rattle.live_images.specs.Replies.{answered}
 use Rattle.live_images.specs.Sessions.{held_in}

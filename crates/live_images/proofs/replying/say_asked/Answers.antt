@@ -1,5 +1,5 @@
 use Rattle.std.proofs.Common.{◌∙◌, sym, ap, map, refl, Bor, List, ℕ}
-use Rattle.pisa_scripts.specs.Lines.{pieces}
+use Rattle.live_talks.specs.pisa_scripts.Lines.{pieces}
 use Rattle.live_images.specs.Replies.{answered_words}
 use Rattle.live_images.specs.Sessions.{held_in}
 use Rattle.live_images.proofs.Answering.{answer_is, answer_unsaid}

@@ -1,6 +1,6 @@
 use Rattle.std.proofs.Common.{refl, ◌∙◌, ap}
 use Rattle.std.specs.Prelude.{string_bytes}
-use Rattle.two_way_debugger.specs.pisa_machine.Position.{Position}
+use Rattle.image_searches.specs.pisa_machine.Position.{Position}
 use Rattle.live_images.specs.Replies.{spent, reply_of}
 use Rattle.live_images.specs.Sessions.{held_in}
 use Rattle.live_images.proofs.Answering.{answer_said, answer_unsaid}

@@ -1,6 +1,6 @@
 use Rattle.std.proofs.Common.{◌∙◌, sym, ap, map, Some}
 use Rattle.std.specs.Prelude.{Option}
-use Rattle.live_requests.specs.declared.asks.Ask.{Ask}
+use Rattle.live_talks.specs.live_requests.declared.asks.Ask.{Ask}
 use Rattle.live_talks.specs.declared.ends.End.TheVariants as end
 use Rattle.live_images.specs.Replies.{answered_by, answered_words}
 use Rattle.live_images.specs.Sessions.{held_in}

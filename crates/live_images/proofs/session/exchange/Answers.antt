@@ -1,6 +1,6 @@
 use Rattle.std.proofs.Common.{ap, subst, List, ℕ}
 use Rattle.std.specs.Prelude.{⊤}
-use Rattle.live_port.specs.Heard.{Line, Long, Lost, heard}
+use Rattle.live_talks.specs.live_port.Heard.{Line, Long, Lost, heard}
 use Rattle.live_talks.specs.Limits.{WithLimits}
 use Rattle.live_talks.proofs.Putting.{long_said, lost_said, heard_goes, over_goes, failed_goes}
 use Rattle.live_images.proofs.Answering.{PutsToHeard}

@@ -1,5 +1,5 @@
 use Rattle.std.proofs.Common.{◌∙◌, ◌++◌, ap, subst, List, ℕ, ◌∷◌, []}
-use Rattle.pisa_scripts.specs.declared.command.Command.{Command}
+use Rattle.live_requests.specs.pisa_scripts.declared.command.Command.{Command}
 use Rattle.source_debugger.specs.Standing.{CommandsLead}
 use Rattle.live_searches.specs.Goals.{prefixed_lines}
 use Rattle.live_searches.proofs.Looking.{look_stays, watched_lines}

@@ -1,6 +1,6 @@
 use Rattle.std.proofs.Common.{subst, refl, map}
 use Rattle.std.specs.Prelude.{string_bytes}
-use Rattle.pisa_scripts.specs.declared.command.Command.{Command}
+use Rattle.live_requests.specs.pisa_scripts.declared.command.Command.{Command}
 use Rattle.live_searches.specs.declared.moves.Outcome.TheVariants.{Stopped}
 use Rattle.live_searches.specs.declared.moves.Step.{Step}
 use Rattle.live_searches.specs.declared.moves.Step.TheVariants.{Gone, Stuck}

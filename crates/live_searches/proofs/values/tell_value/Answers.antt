@@ -1,6 +1,6 @@
 use Rattle.std.proofs.Common.{◌∙◌, ◌++◌, ap, subst, List, ℕ, ◌∷◌, []}
 use Rattle.std.specs.Prelude.{option_map}
-use Rattle.pisa_scripts.specs.declared.command.Command.{Command}
+use Rattle.live_requests.specs.pisa_scripts.declared.command.Command.{Command}
 use Rattle.source_debugger.specs.Standing.{CommandsLead}
 use Rattle.live_searches.specs.Sights.{watch_in}
 use Rattle.live_searches.specs.Values.{value_by}

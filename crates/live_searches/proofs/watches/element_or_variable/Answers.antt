@@ -1,6 +1,6 @@
 use Rattle.std.proofs.Common.{◌∙◌, sym, ap, map, Bor, List, ℕ, option_map}
 use Rattle.std.specs.Prelude.{codes}
-use Rattle.pisa_scripts.specs.Lines.{pieces}
+use Rattle.live_requests.specs.pisa_scripts.Lines.{pieces}
 use Rattle.live_searches.specs.Goals.{cell_watch, variable_watch}
 use Rattle.live_searches.specs.Sights.{watch_in}
 use Rattle.live_searches.proofs.Watching.{this_watch, other_watch}

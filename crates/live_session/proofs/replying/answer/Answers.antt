@@ -1,9 +1,9 @@
 use Rattle.std.proofs.Common.{refl, false, Some, inl}
 use Rattle.std.specs.Prelude.{string_bytes, ⊤}
-use Rattle.source_debugger.specs.meaning_points.rpp_tree.Views.{source_of}
-use Rattle.source_debugger.specs.declared.failing.Detail.TheVariants as details
-use Rattle.source_debugger.specs.Failures.{account_of}
-use Rattle.live_requests.specs.declared.request.Request.TheVariants as requests
+use Rattle.live_searches.specs.rpp_tree.Views.{source_of}
+use Rattle.live_searches.specs.source_debugger.declared.failing.Detail.TheVariants as details
+use Rattle.live_searches.specs.source_debugger.Failures.{account_of}
+use Rattle.live_talks.specs.live_requests.declared.request.Request.TheVariants as requests
 use Rattle.live_talks.specs.declared.ends.End.TheVariants as end
 use Rattle.live_talks.specs.Ends.{end_line}
 use Rattle.live_talks.specs.Serving.{OrMemory}

@@ -1,7 +1,7 @@
 use Rattle.std.proofs.Common.{◌∙◌, ap, map, refl, Bor, List, ℕ, false}
-use Rattle.pisa_scripts.specs.Lines.{pieces}
-use Rattle.source_debugger.specs.meaning_points.rpp_tree.Views.{source_of}
-use Rattle.source_debugger.specs.Failures.{account_of}
+use Rattle.live_talks.specs.pisa_scripts.Lines.{pieces}
+use Rattle.live_searches.specs.rpp_tree.Views.{source_of}
+use Rattle.live_searches.specs.source_debugger.Failures.{account_of}
 use Rattle.live_talks.proofs.Putting.{text_unsaid}
 use Rattle.live_session.specs.Replies.{asked_moves}
 use Rattle.live_session.specs.Serving.{RepliesMoves}

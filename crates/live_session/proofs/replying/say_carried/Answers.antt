@@ -1,9 +1,9 @@
 use Rattle.std.proofs.Common.{refl, ap, Err, false}
 use Rattle.std.specs.Prelude.{string_bytes}
-use Rattle.source_debugger.specs.meaning_points.rpp_tree.Views.{source_of}
-use Rattle.source_debugger.specs.Failures.{account_of}
-use Rattle.source_debugger.specs.Standing.{Standing}
-use Rattle.live_requests.specs.declared.request.Request.TheVariants.{Carry}
+use Rattle.live_searches.specs.rpp_tree.Views.{source_of}
+use Rattle.live_searches.specs.source_debugger.Failures.{account_of}
+use Rattle.live_searches.specs.source_debugger.Standing.{Standing}
+use Rattle.live_talks.specs.live_requests.declared.request.Request.TheVariants.{Carry}
 use Rattle.live_talks.specs.Serving.{OrMemory}
 use Rattle.live_talks.proofs.Putting.{text_said, text_unsaid, roomless}
 use Rattle.live_session.specs.Serving.{RepliesTo}

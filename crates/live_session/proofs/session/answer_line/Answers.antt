@@ -1,10 +1,10 @@
 use Rattle.std.proofs.Common.{◌≡◌, ◌∙◌, refl, sym, subst, None}
 use Rattle.std.specs.Prelude.{⊤}
-use Rattle.source_debugger.specs.meaning_points.rpp_tree.Views.{source_of}
-use Rattle.source_debugger.specs.Failures.{account_of}
-use Rattle.live_requests.specs.declared.request.Request.{Request}
-use Rattle.live_requests.specs.Requests.{request_of, is_quit}
-use Rattle.live_requests.specs.Limited.{limit_of}
+use Rattle.live_searches.specs.rpp_tree.Views.{source_of}
+use Rattle.live_searches.specs.source_debugger.Failures.{account_of}
+use Rattle.live_talks.specs.live_requests.declared.request.Request.{Request}
+use Rattle.live_talks.specs.live_requests.Requests.{request_of, is_quit}
+use Rattle.live_talks.specs.live_requests.Limited.{limit_of}
 use Rattle.live_talks.specs.Serving.{OrMemory, PutsBy}
 use Rattle.live_talks.proofs.Limiting.{line_held, limit_set, line_unread}
 use Rattle.live_session.specs.Replies.{IsReplyOf}

@@ -1,8 +1,8 @@
 use Rattle.std.proofs.Common.{ap, subst, List, ℕ}
 use Rattle.std.specs.Prelude.{⊤}
-use Rattle.source_debugger.specs.meaning_points.rpp_tree.Views.{source_of}
-use Rattle.source_debugger.specs.Failures.{account_of}
-use Rattle.live_port.specs.Heard.{Line, Long, Lost, heard}
+use Rattle.live_searches.specs.rpp_tree.Views.{source_of}
+use Rattle.live_searches.specs.source_debugger.Failures.{account_of}
+use Rattle.live_talks.specs.live_port.Heard.{Line, Long, Lost, heard}
 use Rattle.live_talks.specs.Sessions.{IsReply, quits}
 use Rattle.live_talks.specs.Serving.{PutsBy}
 use Rattle.live_talks.specs.Limits.{held_run}

@@ -1,6 +1,6 @@
 use Rattle.std.proofs.Common.{None, Some}
-use Rattle.source_debugger.specs.meaning_points.rpp_tree.Views.{source_of}
-use Rattle.source_debugger.specs.Failures.{account_of}
+use Rattle.live_searches.specs.rpp_tree.Views.{source_of}
+use Rattle.live_searches.specs.source_debugger.Failures.{account_of}
 use Rattle.live_talks.specs.Limits.{held_run}
 use Rattle.live_talks.proofs.Putting.{one_more, over, enough}
 use Rattle.live_session.specs.Sessions.{RepliesOf}

@@ -1,8 +1,8 @@
 use Rattle.std.proofs.Common.{◌∙◌, sym, ap, List, ℕ}
 use Rattle.std.specs.Prelude.{option_map}
-use Rattle.source_debugger.specs.meaning_points.rpp_tree.Views.{source_of}
-use Rattle.source_debugger.specs.Failures.{account_of}
-use Rattle.live_requests.specs.Requests.{request_name}
+use Rattle.live_searches.specs.rpp_tree.Views.{source_of}
+use Rattle.live_searches.specs.source_debugger.Failures.{account_of}
+use Rattle.live_talks.specs.live_requests.Requests.{request_name}
 use Rattle.live_searches.specs.Values.{variable_value_at}
 use Rattle.live_session.proofs.Looks.{value_told}
 use Rattle.live_session.proofs.telling.tell_name.Goals as goal

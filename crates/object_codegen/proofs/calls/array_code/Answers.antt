@@ -1,5 +1,5 @@
 use Rattle.std.specs.Prelude.{◌+◌, ◌*◌}
-use Rattle.rpp_tree.specs.Views.{expression_of, lvalue_of}
+use Rattle.refine_heap.specs.rpp_tree.Views.{expression_of, lvalue_of}
 use Rattle.expr_uncompute.specs.code_scope.Visible.{spot_of, free_words_of, known_in}
 use Rattle.expr_uncompute.specs.register_expressions.Steps.{token_count}
 use Rattle.expr_uncompute.specs.Steps.{place_tokens}

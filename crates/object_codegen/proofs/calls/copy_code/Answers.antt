@@ -1,5 +1,5 @@
 use Rattle.std.specs.Prelude.{◌+◌, ◌*◌}
-use Rattle.rpp_tree.specs.Views.{lvalue_of}
+use Rattle.refine_heap.specs.rpp_tree.Views.{lvalue_of}
 use Rattle.expr_uncompute.specs.code_scope.Visible.{spot_of, free_words_of, known_in}
 use Rattle.expr_uncompute.specs.Steps.{place_tokens}
 use Rattle.object_codegen.specs.Code.{copy_mid}

@@ -1,6 +1,6 @@
 use Rattle.std.proofs.Common.{sym, ap, subst, ◌≤◌, length}
 use Rattle.std.specs.Prelude.{IfOk}
-use Rattle.rpp_tree.specs.Views.{lvalue_of, creation_of}
+use Rattle.refine_heap.specs.rpp_tree.Views.{lvalue_of, creation_of}
 use Rattle.object_codegen.specs.Creations.{creation_size}
 use Rattle.object_codegen.proofs.calls.new_code.Goals as goal
 

@@ -1,5 +1,5 @@
 use Rattle.std.proofs.Common.{arith}
-use Rattle.rpp_tree.specs.Views.{source_of}
+use Rattle.refine_heap.specs.rpp_tree.Views.{source_of}
 use Rattle.static_layout.proofs.roopl_semantics_laws.MainPlace.{class_inside}
 use Rattle.object_codegen.proofs.tables.class_number.Goals as goal
 

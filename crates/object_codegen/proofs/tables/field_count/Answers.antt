@@ -1,6 +1,6 @@
 use Rattle.std.proofs.Common.{◌∙◌, ap, List, length}
-use Rattle.rpp_tree.specs.declared.tree.Var.{Var}
-use Rattle.rpp_tree.specs.Views.{source_of}
+use Rattle.refine_heap.specs.rpp_tree.declared.tree.Var.{Var}
+use Rattle.refine_heap.specs.rpp_tree.Views.{source_of}
 use Rattle.refine_heap.specs.class_rules.Table.{Table, fields_in}
 use Rattle.refine_heap.proofs.class_rules_laws.Tables.{table_reads}
 use Rattle.object_codegen.proofs.tables.field_count.Goals as goal

@@ -1,5 +1,5 @@
 use Rattle.std.proofs.Common.{◌≡◌, ◌∙◌, ◌+◌, ◌-◌, ◌*◌, ◌^◌, min, get_or, drop, ap, arith}
-use Rattle.rpp_words.specs.Texts.{decimal_from}
+use Rattle.pisa_machine.specs.rpp_words.Texts.{decimal_from}
 use Rattle.pisa_loader.proofs.Decimal.{one_more}
 use Rattle.pisa_loader.proofs.lines.decimal.Goals as goal
 

@@ -1,5 +1,5 @@
 use Rattle.std.proofs.Common.{◌≡◌, ◌≤◌, ◌^◌, min, drop}
-use Rattle.rpp_words.specs.Texts.{decimal_from}
+use Rattle.pisa_machine.specs.rpp_words.Texts.{decimal_from}
 use Rattle.pisa_loader.proofs.lines.decimal.Given as goal
 
 abbrev pub invariant-loop-digit : goal.invariant-loop-digit

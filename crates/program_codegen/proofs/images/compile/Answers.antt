@@ -1,6 +1,6 @@
 use Rattle.std.proofs.Common.{◌≡◌, ◌∙◌, ap, subst, ◌≤◌, List, length}
-use Rattle.rpp_tree.specs.declared.tree.Var.{Var}
-use Rattle.rpp_tree.specs.Views.{source_of}
+use Rattle.refine_program.specs.rpp_tree.declared.tree.Var.{Var}
+use Rattle.refine_program.specs.rpp_tree.Views.{source_of}
 use Rattle.refine_program.specs.pisa_isa.Notes.{NoteLists}
 use Rattle.refine_program.specs.code_conventions.declared.memory.TheConstants.{FIRST_FIELD}
 use Rattle.refine_program.specs.roopl_semantics.Source.{main_fields}

@@ -1,5 +1,5 @@
 use Rattle.std.proofs.Common.{◌≡◌, ◌∙◌, sym, ap, subst, ◌+◌, length, arith}
-use Rattle.rpp_tree.specs.Views.{source_of}
+use Rattle.refine_program.specs.rpp_tree.Views.{source_of}
 use Rattle.refine_program.specs.class_rules.Classes.{main_of}
 use Rattle.refine_program.specs.class_rules.First.{each_below}
 use Rattle.refine_program.specs.class_rules.Table.{Table}

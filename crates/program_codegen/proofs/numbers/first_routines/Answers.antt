@@ -1,5 +1,5 @@
 use Rattle.std.proofs.Common.{◌≡◌, ◌∙◌, sym, ap, ◌+◌, [], ◌∷◌, ◌++◌, map, arith}
-use Rattle.rpp_tree.specs.Views.{class_text_of, source_of}
+use Rattle.refine_program.specs.rpp_tree.Views.{class_text_of, source_of}
 use Rattle.refine_program.specs.class_rules.First.{each_below}
 use Rattle.refine_program.proofs.class_rules_laws.Numbers.{each_below-next}
 use Rattle.refine_program.specs.Methods.{methods_before}

@@ -1,5 +1,5 @@
 use Rattle.std.proofs.Common.{◌≡◌}
-use Rattle.rpp_tree.specs.Views.{source_of}
+use Rattle.refine_program.specs.rpp_tree.Views.{source_of}
 use Rattle.refine_program.specs.class_rules.First.{each_below}
 use Rattle.refine_program.specs.Methods.{methods_before}
 use Rattle.program_codegen.proofs.numbers.first_routines.Given as goal

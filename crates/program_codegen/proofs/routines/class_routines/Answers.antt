@@ -1,4 +1,4 @@
-use Rattle.rpp_tree.specs.Views.{source_of}
+use Rattle.refine_program.specs.rpp_tree.Views.{source_of}
 use Rattle.program_codegen.proofs.Entries.{method_pushed}
 use Rattle.program_codegen.proofs.routines.class_routines.Goals as goal
 

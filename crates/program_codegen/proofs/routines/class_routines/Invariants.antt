@@ -1,6 +1,6 @@
 use Rattle.std.proofs.Common.{take, map}
 use Rattle.std.specs.List.{AllZip}
-use Rattle.rpp_tree.specs.Views.{procedure_of, source_of}
+use Rattle.refine_program.specs.rpp_tree.Views.{procedure_of, source_of}
 use Rattle.refine_program.specs.Methods.{entries_of}
 use Rattle.program_codegen.specs.Routines.{IsRoutine}
 use Rattle.program_codegen.proofs.routines.class_routines.Given as goal

@@ -1,6 +1,6 @@
 use Rattle.std.proofs.Common.{◌∙◌, ap, ◌<◌, length, map, arith}
 use Rattle.std.proofs.lemmas.List.{length-map}
-use Rattle.rpp_tree.specs.Views.{procedure_of, source_of}
+use Rattle.refine_program.specs.rpp_tree.Views.{procedure_of, source_of}
 use Rattle.refine_program.specs.class_rules.Members.{class_at}
 use Rattle.refine_program.specs.class_rules.Table.{Table}
 use Rattle.refine_program.proofs.class_rules_laws.InheritedSlots.{class_there}

@@ -1,6 +1,6 @@
 use Rattle.std.proofs.Common.{take}
 use Rattle.std.specs.List.{AllZip}
-use Rattle.rpp_tree.specs.Views.{source_of}
+use Rattle.refine_program.specs.rpp_tree.Views.{source_of}
 use Rattle.refine_program.specs.Methods.{entries_from}
 use Rattle.program_codegen.specs.Routines.{IsRoutine}
 use Rattle.program_codegen.proofs.routines.method_routines.Given as goal

@@ -1,5 +1,5 @@
 use Rattle.std.proofs.Common.{sym, subst}
-use Rattle.rpp_tree.specs.Views.{procedure_of, block_of}
+use Rattle.refine_program.specs.rpp_tree.Views.{procedure_of, block_of}
 use Rattle.statement_codegen.specs.Pieces.{StandsIn}
 use Rattle.program_codegen.proofs.Bodies.{stands_in}
 use Rattle.program_codegen.proofs.RoutineMade.{routine_made}

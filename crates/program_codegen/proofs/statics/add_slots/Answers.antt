@@ -1,6 +1,6 @@
 use Rattle.std.proofs.Common.{◌∙◌, ap, ◌≤◌, ◌+◌, ◌++◌, length, map, take_all, arith}
 use Rattle.std.specs.Prelude.{slice_index}
-use Rattle.rpp_tree.specs.Views.{source_of}
+use Rattle.refine_program.specs.rpp_tree.Views.{source_of}
 use Rattle.refine_program.specs.class_rules.Classes.{class_slots}
 use Rattle.refine_program.specs.class_rules.Members.{Slots}
 use Rattle.refine_program.specs.class_rules.Table.{Table, slots_in}

@@ -1,6 +1,6 @@
 use Rattle.std.proofs.Common.{◌≡◌, ◌++◌, ◌+◌, ℕ, List, map, take}
 use Rattle.std.specs.Prelude.{slice_index}
-use Rattle.rpp_tree.specs.Views.{source_of}
+use Rattle.refine_program.specs.rpp_tree.Views.{source_of}
 use Rattle.refine_program.specs.class_rules.Classes.{class_slots}
 use Rattle.refine_program.specs.paired_code.Link.{static_word}
 use Rattle.refine_program.specs.Methods.{routine_of}

@@ -1,5 +1,5 @@
 use Rattle.std.proofs.Common.{◌≡◌, ◌++◌, ℕ, List, map}
-use Rattle.rpp_tree.specs.Views.{source_of}
+use Rattle.refine_program.specs.rpp_tree.Views.{source_of}
 use Rattle.refine_program.specs.class_rules.First.{each_below}
 use Rattle.refine_program.specs.roopl_semantics.Layout.{tables}
 use Rattle.refine_program.specs.paired_code.Link.{static_word}

@@ -1,5 +1,5 @@
 use Rattle.command_plan.specs.Plans.{planned}
-use Rattle.roopl_judge.specs.rpp_tree.declared.limits.TheConstants.{MOST_BYTES}
+use Rattle.command_plan.specs.rpp_tree.declared.limits.TheConstants.{MOST_BYTES}
 use Rattle.command_plan.proofs.GivenTexts.{with_text}
 use Rattle.program_commands.specs.ProgramPlans.{IsCompilePlan}
 use Rattle.program_commands.proofs.compiling.compile_file.Goals as goal

@@ -1,5 +1,5 @@
 use Rattle.std.proofs.Common.{option_map, string_bytes, List, ℕ}
-use Rattle.roopl_judge.specs.rpp_tree.declared.limits.TheConstants.{MOST_BYTES}
+use Rattle.command_plan.specs.rpp_tree.declared.limits.TheConstants.{MOST_BYTES}
 use Rattle.command_plan.specs.Plans.{planned, WithInput}
 use Rattle.command_plan.proofs.GivenTexts.{with_text, with_input}
 use Rattle.program_commands.specs.RunPlans.{IsGoPlan}

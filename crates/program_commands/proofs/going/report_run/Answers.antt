@@ -1,5 +1,5 @@
 use Rattle.std.proofs.Common.{sym, subst}
-use Rattle.roopl_judge.specs.rpp_tree.Views.{source_of}
+use Rattle.command_plan.specs.rpp_tree.Views.{source_of}
 use Rattle.image_inverter.specs.pisa_isa.declared.machine.Stop.{Stop}
 use Rattle.program_commands.specs.GoRun.{HasRun}
 use Rattle.command_plan.specs.Plans.{planned}

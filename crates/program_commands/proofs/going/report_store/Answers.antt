@@ -1,6 +1,6 @@
 use Rattle.std.proofs.Common.{◌∙◌, ap}
 use Rattle.std.specs.Prelude.{string_bytes}
-use Rattle.roopl_judge.specs.rpp_tree.Views.{source_of}
+use Rattle.command_plan.specs.rpp_tree.Views.{source_of}
 use Rattle.command_plan.specs.command_ends.declared.verdict.Verdict.TheVariants.{Done}
 use Rattle.command_plan.specs.Plans.{planned, prints}
 use Rattle.program_commands.proofs.Reported.{reports_store}

@@ -1,4 +1,4 @@
-use Rattle.roopl_judge.specs.rpp_tree.Views.{source_of}
+use Rattle.command_plan.specs.rpp_tree.Views.{source_of}
 use Rattle.command_plan.specs.Plans.{planned}
 use Rattle.program_commands.proofs.Turned.{has_run, runs_image}
 use Rattle.program_runs.proofs.Weaker.{weaken}

@@ -1,7 +1,7 @@
 use Rattle.std.proofs.Common.{◌≡◌, ◌∙◌, ◌++◌, ap, map, string_bytes, inl, inr}
 use Rattle.std.specs.Prelude.{◌⊎◌}
 use Rattle.program_commands.specs.ToldShort.{ProfilesShort}
-use Rattle.roopl_judge.specs.rpp_tree.Views.{source_of}
+use Rattle.command_plan.specs.rpp_tree.Views.{source_of}
 use Rattle.command_plan.specs.rpp_probes.Tally.{lines_after}
 use Rattle.store_report.specs.pisa_machine.Told.{counted_steps}
 use Rattle.command_plan.specs.Plans.{planned}

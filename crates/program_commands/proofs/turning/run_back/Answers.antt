@@ -4,7 +4,7 @@ use Rattle.image_inverter.specs.pisa_isa.Flipped.{flipped}
 use Rattle.image_inverter.specs.pisa_isa.Runs.{started}
 use Rattle.program_commands.specs.ToldShort.{IsToldSoFar}
 use Rattle.program_commands.proofs.Watched.{told_short, so_far_from}
-use Rattle.roopl_judge.specs.rpp_tree.Views.{source_of}
+use Rattle.command_plan.specs.rpp_tree.Views.{source_of}
 use Rattle.image_inverter.specs.pisa_isa.Flipped.{flipped_image}
 use Rattle.image_inverter.specs.pisa_isa.Image.{Segments}
 use Rattle.image_inverter.specs.pisa_isa.Runs.{run}

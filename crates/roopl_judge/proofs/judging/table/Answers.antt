@@ -1,5 +1,5 @@
 use Rattle.std.proofs.Common.{sym, subst}
-use Rattle.rpp_tree.specs.Views.{source_of}
+use Rattle.token_limits.specs.rpp_tree.Views.{source_of}
 use Rattle.roopl_judge.specs.Errors.{IfRefused}
 use Rattle.roopl_judge.proofs.AsRefusals.{IsRefusal, by_class_table}
 use Rattle.roopl_judge.proofs.judging.table.Goals as goal

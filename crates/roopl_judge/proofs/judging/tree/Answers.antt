@@ -1,5 +1,5 @@
 use Rattle.std.proofs.Common.{◌∙◌, ap, sym, subst, Err}
-use Rattle.rpp_tree.specs.Views.{source_of}
+use Rattle.token_limits.specs.rpp_tree.Views.{source_of}
 use Rattle.token_limits.proofs.roopl_parser_laws.Parts.{small_tokens}
 use Rattle.token_limits.specs.roopl_parser.Viable.{first_limit as limit_read}
 use Rattle.token_limits.specs.Limits.{count_first_limit}

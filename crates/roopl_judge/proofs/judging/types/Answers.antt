@@ -1,6 +1,6 @@
 use Rattle.std.proofs.Common.{sym, subst, Ok}
-use Rattle.rpp_tree.specs.declared.tree.Program.{Program}
-use Rattle.rpp_tree.specs.Views.{source_of}
+use Rattle.token_limits.specs.rpp_tree.declared.tree.Program.{Program}
+use Rattle.token_limits.specs.rpp_tree.Views.{source_of}
 use Rattle.reversible_types.specs.Verdicts.{refusal_of}
 use Rattle.roopl_judge.specs.Errors.{IfRefused}
 use Rattle.roopl_judge.specs.Judged.{IsJudged, accepted}

@@ -1,6 +1,6 @@
 use Rattle.std.proofs.Common.{◌≡◌, ◌≤◌, [], ◌∷◌, List, length, map}
 use Rattle.std.specs.Prelude.{true}
-use Rattle.rpp_tree.specs.Views.{class_text_of}
+use Rattle.roopl_lexer.specs.rpp_tree.Views.{class_text_of}
 use Rattle.roopl_parser.specs.Reader.{scan, Part, ParsedValue, Program, Classes}
 use Rattle.roopl_parser.proofs.class.classes.Given as goal
 

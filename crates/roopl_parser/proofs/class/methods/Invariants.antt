@@ -1,6 +1,6 @@
 use Rattle.std.proofs.Common.{◌≡◌, ◌≤◌, [], ◌∷◌, List, length, map}
 use Rattle.std.specs.Prelude.{true}
-use Rattle.rpp_tree.specs.Views.{procedure_of}
+use Rattle.roopl_lexer.specs.rpp_tree.Views.{procedure_of}
 use Rattle.roopl_parser.specs.Reader.{scan, Part, ParsedValue, Procedures, Methods}
 use Rattle.roopl_parser.proofs.class.methods.Given as goal
 

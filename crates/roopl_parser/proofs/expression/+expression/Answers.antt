@@ -1,6 +1,6 @@
 use Rattle.std.proofs.Common.{arith, ◌∙◌, ◌<◌, ◌≡◌, ◌∷◌, suc, true, sym, ap}
 use Rattle.std.proofs.lemmas.Result.{err_from_is_err_and}
-use Rattle.rpp_tree.specs.declared.limits.TheConstants.{MOST_PARENS, MOST_INDEX_DEPTH}
+use Rattle.roopl_lexer.specs.rpp_tree.declared.limits.TheConstants.{MOST_PARENS, MOST_INDEX_DEPTH}
 use Rattle.roopl_lexer.specs.declared.token.Symbol.TheVariants as sign
 use Rattle.roopl_parser.specs.Reader.{scan, walk, ends, here, is_sign, Index, Build, MakeRead, AnIdent, AnExpr}
 use Rattle.roopl_parser.proofs.Moves.{run_build, run_level, gives_from, read_back}

@@ -1,5 +1,5 @@
 use Rattle.std.proofs.Common.{arith, ◌∷◌, ◌<◌}
-use Rattle.rpp_tree.specs.declared.limits.TheConstants.{MOST_PARAMETERS}
+use Rattle.roopl_lexer.specs.rpp_tree.declared.limits.TheConstants.{MOST_PARAMETERS}
 use Rattle.roopl_parser.specs.Reader.{Build, AddVar, Vars}
 use Rattle.roopl_parser.proofs.Moves.{run_build}
 use Rattle.roopl_parser.proofs.MoreMoves.{run_param, gives_through}

@@ -3,7 +3,7 @@ use Rattle.std.proofs.lemmas.Result.{err_from_is_err_and}
 use Rattle.roopl_parser.specs.Operators.{update_operator}
 use Rattle.roopl_parser.proofs.Moves.{run_build, run_count}
 use Rattle.roopl_parser.proofs.MoreMoves.{run_swap}
-use Rattle.rpp_tree.proofs.Statements.{statement_swap}
+use Rattle.roopl_lexer.proofs.rpp_tree_laws.Statements.{statement_swap}
 use Rattle.roopl_parser.proofs.simple.assigned.Goals as goal
 
 pub returns-in_err-rest-in-None-update_operator-clause-gives :

@@ -1,6 +1,6 @@
 use Rattle.std.proofs.Common.{◌≡◌, ◌<◌, ◌∷◌, ◌+◌, ◌*◌, ℕ, List, length, map}
 use Rattle.std.specs.Prelude.{true}
-use Rattle.rpp_tree.specs.Views.{statement_of}
+use Rattle.roopl_lexer.specs.rpp_tree.Views.{statement_of}
 use Rattle.roopl_parser.specs.Reader.{scan, Block, Stmts, Build, MakeBlock, Many, Part, ParsedValue}
 use Rattle.roopl_parser.proofs.statement.+statement.Given as goal
 

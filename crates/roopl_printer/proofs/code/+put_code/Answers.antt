@@ -2,15 +2,15 @@
 use Rattle.std.proofs.Common.{[], ◌∷◌, ◌++◌, append_assoc, refl, ap, ◌∙◌}
 use Rattle.std.proofs.lemmas.Result.{IfOk-equal}
 use Rattle.std.proofs.lemmas.List.Concat.{flat_map-append}
-use Rattle.rpp_tree.specs.Views.{expression_of, lvalue_of, optional_lvalue_of, statement_of, block_of}
+use Rattle.roopl_parser.specs.rpp_tree.Views.{expression_of, lvalue_of, optional_lvalue_of, statement_of, block_of}
 use Rattle.roopl_parser.specs.roopl_lexer.declared.token.Keyword.TheVariants as word
 use Rattle.roopl_printer.specs.Printed.{a_name, a_word}
 use Rattle.roopl_printer.specs.Spelled.{first_word, call_word, spelled_expression, spelled_block, spelled_binding}
 use Rattle.roopl_printer.specs.Spelled.{spelled_type, spelled_place, spelled_target}
 use Rattle.roopl_printer.proofs.Gaps.{adds, adds_one, both, adds_statement}
-use Rattle.rpp_tree.proofs.Statements.{statement_update, statement_swap, statement_if, statement_from}
-use Rattle.rpp_tree.proofs.Statements.{statement_construct, statement_local, statement_new, statement_delete}
-use Rattle.rpp_tree.proofs.Statements.{statement_copy, statement_uncopy, statement_call}
+use Rattle.roopl_parser.proofs.rpp_tree_laws.Statements.{statement_update, statement_swap, statement_if, statement_from}
+use Rattle.roopl_parser.proofs.rpp_tree_laws.Statements.{statement_construct, statement_local, statement_new, statement_delete}
+use Rattle.roopl_parser.proofs.rpp_tree_laws.Statements.{statement_copy, statement_uncopy, statement_call}
 use Rattle.roopl_printer.proofs.code.+put_code.Goals as goal
 
 pub put_stmt-returns-in_ok-put-in-Update : goal.put_stmt-returns-in_ok-put-in-Update

@@ -1,5 +1,5 @@
 use Rattle.std.proofs.Common.{◌≡◌, ◌++◌, drop, map}
-use Rattle.rpp_tree.specs.Views.{statement_of, statements_of, block_of}
+use Rattle.roopl_parser.specs.rpp_tree.Views.{statement_of, statements_of, block_of}
 use Rattle.roopl_printer.specs.Printed.{with_gaps}
 use Rattle.roopl_printer.specs.Spelled.{spelled_block}
 use Rattle.roopl_printer.proofs.code.+put_code.Given as goal

@@ -1,6 +1,6 @@
 use Rattle.std.proofs.Common.{sym, subst}
 use Rattle.std.specs.Str.{IsUtf8}
-use Rattle.rpp_tree.specs.Views.{source_of}
+use Rattle.roopl_parser.specs.rpp_tree.Views.{source_of}
 use Rattle.roopl_printer.proofs.TokenBytes.{printed_utf8}
 use Rattle.roopl_printer.proofs.whole.print.Goals as goal
 

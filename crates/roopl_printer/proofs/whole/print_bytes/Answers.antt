@@ -1,7 +1,7 @@
 use Rattle.std.proofs.Common.{◌∙◌, ap, sym, map, take_all}
 use Rattle.std.specs.List.{flat_map}
 use Rattle.std.proofs.lemmas.List.Folds.{flat_map-map}
-use Rattle.rpp_tree.specs.Views.{class_text_of}
+use Rattle.roopl_parser.specs.rpp_tree.Views.{class_text_of}
 use Rattle.roopl_printer.specs.Printed.{printed_text}
 use Rattle.roopl_printer.specs.Spelled.{spelled_class}
 use Rattle.roopl_printer.proofs.Gaps.{class_by_class}

@@ -1,6 +1,6 @@
 use Rattle.std.proofs.Common.{◌≡◌, take}
 use Rattle.std.specs.List.{flat_map}
-use Rattle.rpp_tree.specs.Views.{class_text_of}
+use Rattle.roopl_parser.specs.rpp_tree.Views.{class_text_of}
 use Rattle.roopl_printer.specs.Printed.{printed_text}
 use Rattle.roopl_printer.specs.Spelled.{spelled_class}
 use Rattle.roopl_printer.proofs.whole.print_bytes.Given as goal

@@ -1,6 +1,6 @@
 use Rattle.std.proofs.Common.{◌≡◌, ◌++◌, take, map}
 use Rattle.std.specs.List.{flat_map}
-use Rattle.rpp_tree.specs.Views.{procedure_of}
+use Rattle.roopl_parser.specs.rpp_tree.Views.{procedure_of}
 use Rattle.roopl_printer.specs.Printed.{with_gaps}
 use Rattle.roopl_printer.specs.Spelled.{spelled_method}
 use Rattle.roopl_printer.proofs.whole.put_methods.Given as goal

@@ -1,5 +1,5 @@
 use Rattle.std.proofs.Common.{refl}
-use Rattle.rpp_tree.specs.Views.{creation_of, lvalue_of}
+use Rattle.source_steps.specs.rpp_tree.Views.{creation_of, lvalue_of}
 use Rattle.source_steps.specs.meaning_machine.Reversed.{undeleted}
 use Rattle.source_steps.specs.Metered.{metered}
 use Rattle.source_steps.specs.StateView.{setting_of}

@@ -1,6 +1,6 @@
 use Rattle.std.proofs.Common.{ap₂, refl, subst}
-use Rattle.rpp_tree.specs.Tree.{Whole, Object as AnObject}
-use Rattle.rpp_tree.specs.Views.{lvalue_with}
+use Rattle.source_steps.specs.rpp_tree.Tree.{Whole, Object as AnObject}
+use Rattle.source_steps.specs.rpp_tree.Views.{lvalue_with}
 use Rattle.source_steps.specs.meaning_machine.Reversed.{undeleted}
 use Rattle.source_steps.specs.Ends.{EndsAs}
 use Rattle.source_steps.specs.Metered.{metered}

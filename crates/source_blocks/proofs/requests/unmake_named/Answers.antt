@@ -1,5 +1,5 @@
 use Rattle.std.proofs.Common.{ap₂, subst}
-use Rattle.rpp_tree.specs.Views.{lvalue_with}
+use Rattle.source_steps.specs.rpp_tree.Views.{lvalue_with}
 use Rattle.source_steps.specs.meaning_machine.Reversed.{unmade}
 use Rattle.source_steps.specs.Metered.{MeteredGives, metered}
 use Rattle.source_steps.specs.StateView.{setting_of}

@@ -1,6 +1,6 @@
 use Rattle.std.proofs.Common.{Bool, refl, sym, subst}
 use Rattle.std.specs.Prelude.{IfErr}
-use Rattle.rpp_tree.specs.Views.{statement_of}
+use Rattle.source_steps.specs.rpp_tree.Views.{statement_of}
 use Rattle.source_steps.specs.Ends.{EndsAs, does_simply, turned}
 use Rattle.source_steps.specs.StateView.{state_of}
 use Rattle.source_blocks.specs.Stops.{MayStop}

@@ -1,6 +1,6 @@
 use Rattle.std.proofs.Common.{ap₂, refl, subst}
-use Rattle.rpp_tree.specs.Tree.{Swap, Whole}
-use Rattle.rpp_tree.specs.Views.{lvalue_of, lvalue_with}
+use Rattle.source_steps.specs.rpp_tree.Tree.{Swap, Whole}
+use Rattle.source_steps.specs.rpp_tree.Views.{lvalue_of, lvalue_with}
 use Rattle.source_steps.specs.roopl_semantics.Execution.{element_name}
 use Rattle.source_steps.specs.Ends.{EndsAs, does_simply}
 use Rattle.source_steps.specs.StateView.{state_of}

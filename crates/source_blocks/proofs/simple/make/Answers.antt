@@ -1,6 +1,6 @@
 use Rattle.std.proofs.Common.{ap₂, refl, subst}
-use Rattle.rpp_tree.specs.Tree.{New, Whole, Object as AnObject}
-use Rattle.rpp_tree.specs.Views.{lvalue_with}
+use Rattle.source_steps.specs.rpp_tree.Tree.{New, Whole, Object as AnObject}
+use Rattle.source_steps.specs.rpp_tree.Views.{lvalue_with}
 use Rattle.source_steps.specs.Ends.{EndsAs, does_simply}
 use Rattle.source_steps.specs.StateView.{state_of}
 use Rattle.source_blocks.proofs.Scoped.{as_it_was, framed_in, changed_gives, sound_after}

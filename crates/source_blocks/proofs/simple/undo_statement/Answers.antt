@@ -1,6 +1,6 @@
 use Rattle.std.proofs.Common.{◌∙◌, ap, true}
-use Rattle.rpp_tree.specs.Views.{statement_of}
-use Rattle.rpp_tree.proofs.Statements.{statement_new, statement_delete, statement_uncopy}
+use Rattle.source_steps.specs.rpp_tree.Views.{statement_of}
+use Rattle.source_steps.proofs.rpp_tree_laws.Statements.{statement_new, statement_delete, statement_uncopy}
 use Rattle.source_steps.specs.Ends.{turned}
 use Rattle.source_steps.specs.Metered.{IsOwnOrFull}
 use Rattle.source_blocks.proofs.Stopping.{own_so, may_so, anyhow}

@@ -1,5 +1,5 @@
 use Rattle.source_steps.specs.roopl_semantics.Value.{evaluated}
-use Rattle.rpp_tree.specs.Views.{expression_of}
+use Rattle.source_steps.specs.rpp_tree.Views.{expression_of}
 use Rattle.source_steps.specs.source_store.ValueView.{value_of}
 use Rattle.source_steps.specs.Metered.{MeteredGives, metered}
 use Rattle.source_steps.specs.StateView.{setting_of}

@@ -1,7 +1,7 @@
 use Rattle.std.proofs.Common.{◌∙◌, ap, subst, sym, ◌≤◌, ◌<◌}
-use Rattle.rpp_tree.specs.Places.{statement_place}
-use Rattle.rpp_tree.specs.Tree.{Statements}
-use Rattle.rpp_tree.specs.Views.{statement_of}
+use Rattle.source_blocks.specs.rpp_tree.Places.{statement_place}
+use Rattle.source_blocks.specs.rpp_tree.Tree.{Statements}
+use Rattle.source_blocks.specs.rpp_tree.Views.{statement_of}
 use Rattle.source_blocks.specs.declared.task.Task.{Task}
 use Rattle.source_blocks.specs.Blocks.{statement_count, statement_at}
 use Rattle.source_blocks.specs.Tasks.{task_of}

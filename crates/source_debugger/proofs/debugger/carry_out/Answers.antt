@@ -1,8 +1,8 @@
 use Rattle.std.proofs.Common.{◌≡◌, ◌∙◌, sym, ap, subst, rules, Option, Some}
 use Rattle.std.specs.Prelude.{IfOk, string_bytes}
-use Rattle.source_execution.specs.rpp_tree.Views.{source_of}
-use Rattle.source_execution.specs.meaning_points.Trail.{trail}
-use Rattle.pisa_scripts.specs.declared.command.Command.{Command}
+use Rattle.source_courses.specs.rpp_tree.Views.{source_of}
+use Rattle.source_lines.specs.meaning_points.Trail.{trail}
+use Rattle.source_courses.specs.pisa_scripts.declared.command.Command.{Command}
 use Rattle.source_courses.specs.declared.running.TheConstants.{MOST_COST}
 use Rattle.source_courses.specs.declared.moves.Walk.{Walk}
 use Rattle.source_debugger.specs.declared.debugger.Answer.{Answer}

@@ -1,6 +1,6 @@
 use Rattle.std.proofs.Common.{◌∙◌, sym}
 use Rattle.std.specs.Prelude.{option_map, string_bytes}
-use Rattle.source_execution.specs.rpp_tree.Views.{source_of}
+use Rattle.source_courses.specs.rpp_tree.Views.{source_of}
 use Rattle.source_courses.specs.declared.running.TheConstants.{MOST_COST}
 use Rattle.source_debugger.specs.Failures.{account, shown_of}
 use Rattle.source_debugger.proofs.Stopping.{fails_here_ok, goes_on}

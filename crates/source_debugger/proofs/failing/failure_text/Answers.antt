@@ -1,5 +1,5 @@
 use Rattle.std.specs.Prelude.{string_bytes}
-use Rattle.source_execution.specs.rpp_tree.Views.{source_of}
+use Rattle.source_courses.specs.rpp_tree.Views.{source_of}
 use Rattle.source_debugger.specs.Failures.{shown_of}
 use Rattle.source_debugger.proofs.Stopping.{never_fails, found_so, found_none, same_program, fails_so}
 use Rattle.source_debugger.proofs.failing.failure_text.Goals as goal

@@ -1,6 +1,6 @@
 use Rattle.std.proofs.Common.{◌≡◌, ◌∙◌, subst, Some}
 use Rattle.std.specs.Prelude.{IfOk, string_bytes}
-use Rattle.source_execution.specs.rpp_tree.Views.{source_of}
+use Rattle.source_courses.specs.rpp_tree.Views.{source_of}
 use Rattle.source_courses.specs.Walks.{Stand}
 use Rattle.source_debugger.specs.Shown.{cells_shown_at}
 use Rattle.source_courses.specs.Courses.{heap_of}

@@ -1,8 +1,8 @@
 use Rattle.std.proofs.Common.{◌∙◌, sym, ap, List, ℕ, Some}
 use Rattle.std.specs.Prelude.{option_map}
-use Rattle.source_execution.specs.rpp_tree.Views.{source_of}
-use Rattle.source_execution.specs.CallsView.{inside_of}
-use Rattle.source_execution.specs.Standing.{config_at}
+use Rattle.source_courses.specs.rpp_tree.Views.{source_of}
+use Rattle.source_courses.specs.source_execution.CallsView.{inside_of}
+use Rattle.source_courses.specs.source_execution.Standing.{config_at}
 use Rattle.source_debugger.specs.Stacks.{inside_named}
 use Rattle.source_debugger.proofs.stacks.call_text.Goals as goal
 

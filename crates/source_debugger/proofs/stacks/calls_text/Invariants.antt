@@ -1,6 +1,6 @@
 use Rattle.std.proofs.Common.{◌≡◌, ◌++◌, map, drop}
 use Rattle.std.specs.Prelude.{string_bytes}
-use Rattle.source_execution.specs.CallsView.{active_of}
+use Rattle.source_courses.specs.source_execution.CallsView.{active_of}
 use Rattle.source_debugger.specs.Stacks.{call_lines}
 use Rattle.source_debugger.proofs.stacks.calls_text.Given as goal
 

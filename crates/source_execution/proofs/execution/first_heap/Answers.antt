@@ -1,4 +1,4 @@
-use Rattle.rpp_tree.specs.Views.{source_of}
+use Rattle.source_statements.specs.rpp_tree.Views.{source_of}
 use Rattle.source_execution.proofs.Started.{heap_is}
 use Rattle.source_execution.proofs.execution.first_heap.Goals as goal
 

@@ -1,5 +1,5 @@
 use Rattle.std.proofs.Common.{sym, subst}
-use Rattle.rpp_tree.specs.Views.{source_of}
+use Rattle.source_statements.specs.rpp_tree.Views.{source_of}
 use Rattle.source_checks.specs.meaning_machine.Machine.{next}
 use Rattle.source_checks.specs.source_steps.declared.stop.Stop.{Stop}
 use Rattle.source_checks.specs.source_steps.Metered.{metered, Failed, IsFault}

@@ -1,5 +1,5 @@
 use Rattle.std.proofs.Common.{◌+◌, ◌*◌, ◌<◌, length}
-use Rattle.rpp_tree.specs.Views.{source_of}
+use Rattle.source_statements.specs.rpp_tree.Views.{source_of}
 use Rattle.source_execution.specs.Standing.{config_at}
 use Rattle.source_checks.specs.Failures.{MOST_STEPS}
 use Rattle.source_execution.proofs.Leading.{HasStepped}

@@ -1,6 +1,6 @@
 use Rattle.std.proofs.Common.{◌≡◌, ◌∙◌, ℕ, ◌+◌, ◌-◌, ◌++◌, refl, ap, arith, List}
 use Rattle.std.specs.Prelude.{string_bytes}
-use Rattle.rpp_tree.specs.Views.{source_of}
+use Rattle.source_steps.specs.rpp_tree.Views.{source_of}
 use Rattle.source_steps.specs.roopl_semantics.Store.{object_named}
 use Rattle.source_lines.specs.Named.{object_lines, objects_from}
 use Rattle.source_lines.proofs.NextObject.{objects_next}

@@ -1,6 +1,6 @@
 use Rattle.std.proofs.Common.{◌≡◌, ◌+◌, ◌-◌, ◌++◌}
 use Rattle.std.specs.Prelude.{string_bytes}
-use Rattle.rpp_tree.specs.Views.{source_of}
+use Rattle.source_steps.specs.rpp_tree.Views.{source_of}
 use Rattle.source_lines.specs.Named.{objects_from}
 use Rattle.source_lines.proofs.objects.add_objects.Given as goal
 

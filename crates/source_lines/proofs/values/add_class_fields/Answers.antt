@@ -1,7 +1,7 @@
 use Rattle.std.proofs.Common.{◌≡◌, ◌∙◌, ◌++◌, ap, subst, OnOk, List}
 use Rattle.std.specs.Prelude.{string_bytes}
-use Rattle.rpp_tree.specs.Views.{source_of}
-use Rattle.rpp_tree.specs.declared.tree.Var.{Var}
+use Rattle.source_steps.specs.rpp_tree.Views.{source_of}
+use Rattle.source_steps.specs.rpp_tree.declared.tree.Var.{Var}
 use Rattle.source_steps.specs.class_rules.Table.{fields_in}
 use Rattle.source_steps.specs.source_store.ValueView.{values_of}
 use Rattle.source_steps.proofs.Tables.{fields_read}

@@ -1,6 +1,6 @@
 use Rattle.std.proofs.Common.{◌∙◌, sym, subst, ap, Some}
-use Rattle.rpp_tree.specs.declared.tree.Ident.{Ident}
-use Rattle.rpp_tree.specs.Tree.{Statement, Whole}
+use Rattle.source_blocks.specs.rpp_tree.declared.tree.Ident.{Ident}
+use Rattle.source_blocks.specs.rpp_tree.Tree.{Statement, Whole}
 use Rattle.source_blocks.specs.roopl_semantics.Execution.{element_name}
 use Rattle.source_blocks.specs.meaning_machine.Machine.{called}
 use Rattle.source_blocks.specs.source_steps.StateView.{setting_of}

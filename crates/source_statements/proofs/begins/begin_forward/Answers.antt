@@ -1,8 +1,8 @@
 use Rattle.std.proofs.Common.{◌∙◌, ap, List, ℕ, false}
-use Rattle.rpp_tree.specs.declared.tree.Ident.{Ident}
-use Rattle.rpp_tree.specs.Views.{expression_of, optional_lvalue_of, statement_of, block_of}
-use Rattle.rpp_tree.proofs.Statements.{statement_if, statement_from, statement_construct, statement_local}
-use Rattle.rpp_tree.proofs.Statements.{statement_call}
+use Rattle.source_blocks.specs.rpp_tree.declared.tree.Ident.{Ident}
+use Rattle.source_blocks.specs.rpp_tree.Views.{expression_of, optional_lvalue_of, statement_of, block_of}
+use Rattle.source_blocks.proofs.rpp_tree_laws.Statements.{statement_if, statement_from, statement_construct, statement_local}
+use Rattle.source_blocks.proofs.rpp_tree_laws.Statements.{statement_call}
 use Rattle.source_blocks.specs.roopl_semantics.Execution.{in_direction}
 use Rattle.source_blocks.specs.meaning_machine.Machine.{held_local, called}
 use Rattle.source_blocks.specs.source_steps.StateView.{setting_of}

@@ -1,5 +1,5 @@
 use Rattle.std.proofs.Common.{◌<◌, sym, ap, subst, ◌∙◌, arith, length, ◌≡◌}
-use Rattle.rpp_tree.specs.Views.{statement_of}
+use Rattle.source_blocks.specs.rpp_tree.Views.{statement_of}
 use Rattle.source_blocks.specs.source_steps.Ends.{turned}
 use Rattle.source_blocks.specs.source_steps.StateView.{setting_of}
 use Rattle.source_blocks.specs.declared.run.Run.{Run}

@@ -1,5 +1,5 @@
 use Rattle.std.proofs.Common.{ap, List, ℕ}
-use Rattle.rpp_tree.specs.Tree.{Null}
+use Rattle.source_blocks.specs.rpp_tree.Tree.{Null}
 use Rattle.source_blocks.specs.meaning_machine.Machine.{held_local}
 use Rattle.source_blocks.specs.source_steps.StateView.{setting_of}
 use Rattle.source_blocks.specs.Tasks.{task_of}

@@ -1,7 +1,7 @@
 use Rattle.std.proofs.Common.{◌≡◌, ◌<◌, List, refl, sym, ap, ap₂, subst, ◌∙◌, map}
 use Rattle.std.specs.Option.{unwrap_or, option_map}
-use Rattle.rpp_tree.specs.Tree.{Procedure}
-use Rattle.rpp_tree.specs.Views.{procedure_of}
+use Rattle.source_blocks.specs.rpp_tree.Tree.{Procedure}
+use Rattle.source_blocks.specs.rpp_tree.Views.{procedure_of}
 use Rattle.source_blocks.specs.class_rules.Members.{no_procedure}
 use Rattle.source_blocks.specs.class_rules.Classes.{method_named}
 use Rattle.source_blocks.specs.roopl_semantics.Value.{Cell, read}

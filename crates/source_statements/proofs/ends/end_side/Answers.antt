@@ -1,6 +1,6 @@
 use Rattle.std.proofs.Common.{ap, ◌∙◌, Bool, if◌then◌else◌}
 use Rattle.std.specs.Prelude.{not}
-use Rattle.rpp_tree.specs.Views.{expression_of}
+use Rattle.source_blocks.specs.rpp_tree.Views.{expression_of}
 use Rattle.source_blocks.specs.source_store.ValueView.{value_of}
 use Rattle.source_blocks.specs.source_steps.StateView.{setting_of}
 use Rattle.source_blocks.specs.Runs.{config_of}

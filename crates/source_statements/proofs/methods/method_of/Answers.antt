@@ -1,4 +1,4 @@
-use Rattle.rpp_tree.specs.Views.{source_of}
+use Rattle.source_blocks.specs.rpp_tree.Views.{source_of}
 use Rattle.source_statements.proofs.Dispatched.{method_reads}
 use Rattle.std.proofs.Common.{◌∙◌, ap}
 use Rattle.std.specs.Prelude.{slice_get}

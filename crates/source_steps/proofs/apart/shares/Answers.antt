@@ -1,6 +1,6 @@
 use Rattle.std.proofs.Common.{◌∙◌, ap}
 use Rattle.std.specs.Prelude.{◌||◌}
-use Rattle.rpp_tree.specs.Views.{expression_of}
+use Rattle.class_table.specs.rpp_tree.Views.{expression_of}
 use Rattle.source_store.specs.roopl_semantics.Value.{variable_value}
 use Rattle.source_steps.specs.Apart.{meets_array}
 use Rattle.source_steps.specs.StateView.{state_of, setting_of}

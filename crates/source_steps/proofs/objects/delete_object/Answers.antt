@@ -1,5 +1,5 @@
 use Rattle.std.proofs.Common.{sym, subst}
-use Rattle.rpp_tree.specs.Views.{lvalue_of}
+use Rattle.class_table.specs.rpp_tree.Views.{lvalue_of}
 use Rattle.source_store.specs.roopl_semantics.Elements.{own_element, index_elements, kept_apart}
 use Rattle.source_steps.specs.Metered.{MeteredGives}
 use Rattle.source_steps.specs.StateView.{state_of, setting_of}

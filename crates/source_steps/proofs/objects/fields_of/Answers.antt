@@ -1,5 +1,5 @@
 use Rattle.std.proofs.Common.{◌∙◌, ap}
-use Rattle.rpp_tree.specs.Views.{source_of}
+use Rattle.class_table.specs.rpp_tree.Views.{source_of}
 use Rattle.source_store.specs.class_rules.Table.{fields_in}
 use Rattle.source_steps.proofs.Tables.{fields_read}
 use Rattle.source_steps.proofs.objects.fields_of.Goals as goal

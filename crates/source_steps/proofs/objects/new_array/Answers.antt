@@ -1,5 +1,5 @@
 use Rattle.std.proofs.Common.{sym, subst}
-use Rattle.rpp_tree.specs.Views.{expression_of, lvalue_of}
+use Rattle.class_table.specs.rpp_tree.Views.{expression_of, lvalue_of}
 use Rattle.source_steps.specs.Metered.{MeteredGives}
 use Rattle.source_steps.specs.StateView.{state_of, setting_of}
 use Rattle.source_steps.specs.Ends.{array_head, first_element, made_array}

@@ -1,5 +1,5 @@
 use Rattle.std.proofs.Common.{◌∙◌}
-use Rattle.rpp_tree.specs.declared.tree.Var.{Var}
+use Rattle.class_table.specs.rpp_tree.declared.tree.Var.{Var}
 use Rattle.std.specs.Str.{bytes_eq}
 use Rattle.source_steps.proofs.Scopes.{position_in_map, position_within}
 use Rattle.source_steps.proofs.scope.var_slot.Goals as goal

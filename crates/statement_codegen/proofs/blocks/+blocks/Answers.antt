@@ -1,15 +1,15 @@
 use Rattle.std.proofs.Common.{◌≤◌, arith, length, map, sym, ap, ◌∙◌, subst}
 use Rattle.std.specs.Prelude.{IfOk}
-use Rattle.rpp_tree.proofs.Blocks.{block_of-list}
-use Rattle.rpp_tree.specs.Tree.{Call}
-use Rattle.rpp_tree.specs.Views.{source_of, expression_of, lvalue_of, optional_lvalue_of, creation_of}
-use Rattle.rpp_tree.specs.Views.{statement_of, statements_of, block_of}
+use Rattle.refine_objects.proofs.rpp_tree_laws.Blocks.{block_of-list}
+use Rattle.refine_objects.specs.rpp_tree.Tree.{Call}
+use Rattle.refine_objects.specs.rpp_tree.Views.{source_of, expression_of, lvalue_of, optional_lvalue_of, creation_of}
+use Rattle.refine_objects.specs.rpp_tree.Views.{statement_of, statements_of, block_of}
 use Rattle.branch_codegen.specs.class_rules.Program.{IsAccepted}
 use Rattle.statement_codegen.specs.Pieces.{StatementStands, StandsIn, InnerPiece}
 use Rattle.statement_codegen.specs.Codes.{with_variable}
-use Rattle.rpp_tree.proofs.Statements.{statement_if, statement_from, statement_construct, statement_local}
-use Rattle.rpp_tree.proofs.Statements.{statement_update, statement_swap, statement_call, statement_new, statement_delete}
-use Rattle.rpp_tree.proofs.Statements.{statement_copy, statement_uncopy}
+use Rattle.refine_objects.proofs.rpp_tree_laws.Statements.{statement_if, statement_from, statement_construct, statement_local}
+use Rattle.refine_objects.proofs.rpp_tree_laws.Statements.{statement_update, statement_swap, statement_call, statement_new, statement_delete}
+use Rattle.refine_objects.proofs.rpp_tree_laws.Statements.{statement_copy, statement_uncopy}
 use Rattle.statement_codegen.proofs.Standing.{taken_stands, other_stands, entered_stands, repeated_stands, inside_stands}
 use Rattle.statement_codegen.proofs.Standing.{constructed_stands}
 use Rattle.statement_codegen.proofs.Walk.{place_fits, item_stands, making_first, making_next, making_last, item_falls}

@@ -1,6 +1,6 @@
 use Rattle.std.proofs.Common.{◌+◌, ◌*◌, drop, map}
-use Rattle.rpp_tree.specs.Parts.{statement_tokens, block_tokens}
-use Rattle.rpp_tree.specs.Views.{statement_of, statements_of, block_of}
+use Rattle.refine_objects.specs.rpp_tree.Parts.{statement_tokens, block_tokens}
+use Rattle.refine_objects.specs.rpp_tree.Views.{statement_of, statements_of, block_of}
 use Rattle.statement_codegen.proofs.Pieces.{IsMaking}
 use Rattle.statement_codegen.proofs.blocks.+blocks.Given as goal
 

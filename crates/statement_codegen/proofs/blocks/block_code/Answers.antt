@@ -1,4 +1,4 @@
-use Rattle.rpp_tree.specs.Views.{block_of}
+use Rattle.refine_objects.specs.rpp_tree.Views.{block_of}
 use Rattle.statement_codegen.proofs.Pieces.{marks_few}
 use Rattle.statement_codegen.proofs.Arms.{if_ok}
 use Rattle.statement_codegen.proofs.blocks.block_code.Goals as goal

@@ -1,6 +1,6 @@
 use Rattle.std.proofs.Common.{refl, sym, ap, None}
-use Rattle.rpp_tree.specs.Tree.{Call}
-use Rattle.rpp_tree.specs.Views.{optional_lvalue_of}
+use Rattle.refine_objects.specs.rpp_tree.Tree.{Call}
+use Rattle.refine_objects.specs.rpp_tree.Views.{optional_lvalue_of}
 use Rattle.statement_codegen.proofs.Arms.{call_arm}
 use Rattle.statement_codegen.proofs.blocks.call_piece.Goals as goal
 

@@ -1,4 +1,4 @@
-use Rattle.rpp_tree.specs.Views.{expression_of, lvalue_of}
+use Rattle.refine_objects.specs.rpp_tree.Views.{expression_of, lvalue_of}
 use Rattle.statement_codegen.proofs.Arms.{shows_element, element_room, element_arm}
 use Rattle.statement_codegen.proofs.blocks.call_piece_on.Goals as goal
 

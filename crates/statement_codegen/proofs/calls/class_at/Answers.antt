@@ -1,4 +1,4 @@
-use Rattle.rpp_tree.specs.Views.{source_of}
+use Rattle.refine_objects.specs.rpp_tree.Views.{source_of}
 use Rattle.statement_codegen.specs.Codes.{scope_of}
 use Rattle.statement_codegen.proofs.Names.{class_none, class_some}
 use Rattle.statement_codegen.proofs.calls.class_at.Goals as goal

@@ -1,6 +1,6 @@
 use Rattle.std.proofs.Common.{List, subst, sym, ap, ◌∙◌}
 use Rattle.std.specs.Prelude.{IfOk}
-use Rattle.rpp_tree.specs.Views.{source_of}
+use Rattle.refine_objects.specs.rpp_tree.Views.{source_of}
 use Rattle.branch_codegen.specs.class_rules.declared.method.MethodId.{MethodId}
 use Rattle.refine_form.specs.declared.spot.Spot.{Spot}
 use Rattle.branch_codegen.specs.method_calls.Names.{method_slot_of}

@@ -1,6 +1,6 @@
 use Rattle.std.proofs.Common.{◌≡◌, take, map}
 use Rattle.std.specs.List.{All}
-use Rattle.rpp_tree.specs.declared.tree.Ident.{Ident}
+use Rattle.refine_objects.specs.rpp_tree.declared.tree.Ident.{Ident}
 use Rattle.branch_codegen.specs.code_scope.Visible.{spot_of, known_in}
 use Rattle.branch_codegen.specs.method_calls.Facts.{IsNear}
 use Rattle.statement_codegen.proofs.calls.spots_at.Given as goal

@@ -1,5 +1,5 @@
 use Rattle.std.proofs.Common.{sym, ap, ◌∙◌}
-use Rattle.rpp_tree.specs.Views.{lvalue_of}
+use Rattle.refine_objects.specs.rpp_tree.Views.{lvalue_of}
 use Rattle.statement_codegen.specs.Laws.{element_var}
 use Rattle.statement_codegen.proofs.ElementCalls.{place_name_is, popped, element_returns}
 use Rattle.statement_codegen.proofs.elements.element_call_code.Goals as goal

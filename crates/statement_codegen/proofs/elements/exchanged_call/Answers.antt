@@ -1,5 +1,5 @@
 use Rattle.std.proofs.Common.{◌≤◌, ◌+◌, ◌*◌, length, sym, subst}
-use Rattle.rpp_tree.specs.Views.{lvalue_of}
+use Rattle.refine_objects.specs.rpp_tree.Views.{lvalue_of}
 use Rattle.branch_codegen.specs.paired_code.Code.{Code}
 use Rattle.branch_codegen.specs.expr_uncompute.Steps.{place_tokens}
 use Rattle.statement_codegen.proofs.ElementCalls.{exchanged_size}

@@ -1,4 +1,4 @@
-use Rattle.rpp_tree.specs.Views.{expression_of}
+use Rattle.refine_objects.specs.rpp_tree.Views.{expression_of}
 use Rattle.branch_codegen.specs.code_scope.Visible.{known_in}
 use Rattle.statement_codegen.proofs.Clauses.{local_returns}
 use Rattle.statement_codegen.proofs.locals.local_code.Goals as goal

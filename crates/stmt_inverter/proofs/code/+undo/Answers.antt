@@ -1,7 +1,7 @@
 use Rattle.std.proofs.Common.{◌≡◌, ◌∙◌, sym, ap, map}
-use Rattle.rpp_tree.proofs.Blocks.{block_of-list, block_of-made}
+use Rattle.tree_walks.proofs.rpp_tree_laws.Blocks.{block_of-list, block_of-made}
 use Rattle.std.proofs.lemmas.List.{take_all}
-use Rattle.rpp_tree.specs.Views.{statement_of}
+use Rattle.tree_walks.specs.rpp_tree.Views.{statement_of}
 use Rattle.inverse_rules.specs.Inverse.{inverse_statement_as, inverse_as}
 use Rattle.inverse_rules.proofs.Inverses.{block_undone}
 use Rattle.stmt_inverter.proofs.code.+undo.Goals as goal

@@ -1,5 +1,5 @@
 use Rattle.std.proofs.Common.{◌≡◌, take, map}
-use Rattle.rpp_tree.specs.Views.{statement_of}
+use Rattle.tree_walks.specs.rpp_tree.Views.{statement_of}
 use Rattle.inverse_rules.specs.Inverse.{inverse_statement_as}
 use Rattle.stmt_inverter.proofs.code.+undo.Given as goal
 

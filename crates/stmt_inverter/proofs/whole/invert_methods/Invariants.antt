@@ -1,5 +1,5 @@
 use Rattle.std.proofs.Common.{◌≡◌, take, map}
-use Rattle.rpp_tree.specs.Views.{procedure_of}
+use Rattle.tree_walks.specs.rpp_tree.Views.{procedure_of}
 use Rattle.inverse_rules.specs.Inverse.{inverse_procedure}
 use Rattle.stmt_inverter.proofs.whole.invert_methods.Given as goal
 

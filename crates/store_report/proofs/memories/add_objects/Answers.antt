@@ -1,8 +1,8 @@
 use Rattle.std.proofs.Common.{◌≡◌, ◌∙◌, sym, ap, ◌+◌, ◌++◌, drop, ℕ, zero, suc, List, [], ◌∷◌, Some, slice_get, arith}
 use Rattle.std.proofs.Common.{append_assoc}
 use Rattle.std.specs.Prelude.{string_bytes}
-use Rattle.rpp_tree.specs.Views.{source_of}
-use Rattle.rpp_tree.specs.Tree.{Source}
+use Rattle.meaning_reached.specs.rpp_tree.Views.{source_of}
+use Rattle.meaning_reached.specs.rpp_tree.Tree.{Source}
 use Rattle.refine_frame.specs.class_rules.Table.{Table}
 use Rattle.static_layout.specs.roopl_semantics.Report.{Text}
 use Rattle.store_report.specs.declared.leads.Lead.{Lead}

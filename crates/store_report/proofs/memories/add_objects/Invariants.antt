@@ -1,6 +1,6 @@
 use Rattle.std.proofs.Common.{◌≡◌, ◌++◌, drop}
 use Rattle.std.specs.Prelude.{string_bytes}
-use Rattle.rpp_tree.specs.Views.{source_of}
+use Rattle.meaning_reached.specs.rpp_tree.Views.{source_of}
 use Rattle.store_report.specs.Shown.{objects_by, addresses_of}
 use Rattle.store_report.proofs.memories.add_objects.Given as goal
 

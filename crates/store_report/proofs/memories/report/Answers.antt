@@ -1,6 +1,6 @@
 use Rattle.std.proofs.Common.{◌≡◌, ◌∙◌, sym, ap, subst, length, arith}
 use Rattle.std.specs.Prelude.{All, IfOk, Result, Ok, Err, string_bytes}
-use Rattle.rpp_tree.specs.Views.{source_of}
+use Rattle.meaning_reached.specs.rpp_tree.Views.{source_of}
 use Rattle.refine_frame.specs.class_rules.Table.{Table, table_of}
 use Rattle.refine_frame.proofs.class_rules_laws.Numbers.{length-each_below}
 use Rattle.static_layout.specs.roopl_semantics.Layout.{table_at, table_addresses}

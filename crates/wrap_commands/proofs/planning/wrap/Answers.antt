@@ -1,5 +1,5 @@
 use Rattle.std.proofs.Common.{◌∙◌, option_map, string_bytes, subst, List, ℕ}
-use Rattle.rpp_tree.specs.declared.limits.TheConstants.{MOST_BYTES}
+use Rattle.command_plan.specs.rpp_tree.declared.limits.TheConstants.{MOST_BYTES}
 use Rattle.command_plan.specs.Plans.{planned, WithInput}
 use Rattle.command_plan.proofs.GivenTexts.{with_text}
 use Rattle.wrap_commands.specs.WrapPlans.{IsWrapPlan}

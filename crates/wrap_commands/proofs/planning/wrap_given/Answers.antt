@@ -1,7 +1,7 @@
 use Rattle.std.proofs.Common.{◌∙◌, List, subst}
-use Rattle.rpp_tree.specs.Views.{source_of}
-use Rattle.pisa_loader.specs.declared.input.InputField.{InputField}
-use Rattle.pisa_loader.specs.InputLines.{AreInput}
+use Rattle.command_plan.specs.rpp_tree.Views.{source_of}
+use Rattle.command_plan.specs.pisa_loader.declared.input.InputField.{InputField}
+use Rattle.command_plan.specs.pisa_loader.InputLines.{AreInput}
 use Rattle.program_runs.proofs.run_settings_laws.ValidInput.{valid_input}
 use Rattle.wrap_commands.proofs.planning.wrap_given.Goals as goal
 

@@ -1,6 +1,6 @@
 use Rattle.std.proofs.Common.{◌≡◌, ◌∙◌, ◌≤◌, sym, ap, subst, length, List}
-use Rattle.rpp_tree.specs.Views.{source_of}
-use Rattle.pisa_loader.specs.declared.input.InputField.{InputField}
+use Rattle.command_plan.specs.rpp_tree.Views.{source_of}
+use Rattle.command_plan.specs.pisa_loader.declared.input.InputField.{InputField}
 use Rattle.program_runs.specs.run_settings.Inputs.{input_fields}
 use Rattle.wrap_commands.specs.WrapNames.{results_of}
 use Rattle.wrap_commands.proofs.Results.{are_results}

@@ -1,6 +1,6 @@
 use Rattle.std.proofs.Common.{sym, subst}
-use Rattle.rpp_tree.specs.Views.{source_of}
-use Rattle.pisa_isa.specs.declared.machine.Stop.{Stop}
+use Rattle.command_plan.specs.rpp_tree.Views.{source_of}
+use Rattle.store_report.specs.pisa_isa.declared.machine.Stop.{Stop}
 use Rattle.command_plan.specs.Plans.{planned}
 use Rattle.wrap_commands.specs.WrapPlans.{TellsStop}
 use Rattle.wrap_commands.specs.WrapRun.{HasWrapped}

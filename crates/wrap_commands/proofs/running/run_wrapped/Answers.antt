@@ -1,9 +1,9 @@
 use Rattle.std.proofs.Common.{◌≡◌, ◌∙◌, sym, ap, subst, ℕ, List, length, arith}
 use Rattle.std.specs.List.{All}
-use Rattle.rpp_tree.specs.Views.{source_of}
-use Rattle.pisa_isa.specs.Image.{Segments, IsImage}
-use Rattle.pisa_machine.specs.Position.{Position}
-use Rattle.pisa_loader.specs.Limiting.{IsInputOf}
+use Rattle.command_plan.specs.rpp_tree.Views.{source_of}
+use Rattle.store_report.specs.pisa_isa.Image.{Segments, IsImage}
+use Rattle.store_report.specs.pisa_machine.Position.{Position}
+use Rattle.command_plan.specs.pisa_loader.Limiting.{IsInputOf}
 use Rattle.refine_wrap.specs.bennett_wrap.Wrapped.{Wrapped}
 use Rattle.command_plan.specs.Plans.{planned}
 use Rattle.program_runs.proofs.Weaker.{weaken}

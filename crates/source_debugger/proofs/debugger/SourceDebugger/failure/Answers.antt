@@ -1,6 +1,6 @@
 use Rattle.std.proofs.Common.{◌≡◌, subst}
 use Rattle.std.specs.Prelude.{IfOk, option_map, string_bytes}
-use Rattle.source_execution.specs.rpp_tree.Views.{source_of}
+use Rattle.source_courses.specs.rpp_tree.Views.{source_of}
 use Rattle.source_debugger.specs.Standing.{Standing}
 use Rattle.source_debugger.specs.Failures.{account_of, fails_at, shown_of}
 use Rattle.source_debugger.proofs.debugger.SourceDebugger.failure.Goals as goal

@@ -1,9 +1,9 @@
-use Rattle.pisa_scripts.specs.declared.command.Command.TheVariants.{Step}
+use Rattle.source_courses.specs.pisa_scripts.declared.command.Command.TheVariants.{Step}
 use Rattle.std.proofs.Common.{arith, ap, ◌∙◌, ◌++◌, subst, sym}
 use Rattle.std.specs.Prelude.{string_bytes}
 use Rattle.source_debugger.specs.Standing.{IsAlongRun}
 use Rattle.source_debugger.proofs.Following.{followed_more, followed_over, followed_along}
-use Rattle.pisa_scripts.proofs.Errors.{on_err_always}
+use Rattle.source_courses.proofs.pisa_scripts_laws.Errors.{on_err_always}
 use Rattle.source_debugger.proofs.debugger.SourceDebugger.follow.Goals as goal
 
 pub loop-command-preserved : goal.loop-command-preserved
