@@ -3,9 +3,11 @@
 #![tactic(auto)]
 
 mod answers;
+mod digits;
 mod fault;
 pub mod files;
 mod names;
+mod pieces;
 mod printed;
 mod sums;
 mod texts;

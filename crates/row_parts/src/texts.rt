@@ -1,4 +1,10 @@
 // The texts that the pieces of rows mean.
+ghost use Rattle.std.specs.Prelude.{◌≡◌, ◌==◌, ◌||◌, ◌++◌, ◌∷◌, ◌<◌, List, ℕ, map, flat_map, string_bytes, encode_utf8, IfOk};
+ghost use Rattle.std.specs.Char.{is_ascii_alphanumeric};
+ghost use Rattle.std.specs.List.{slice_split};
+ghost use Rattle.row_parts.specs.Texts.{meant, digit, escaped, words, is_word};
+ghost use Rattle.row_parts.specs.Reading.{meant_from};
+
 use std::alloc::{AllocError, Global};
 
 // Where the reading of a text is.
@@ -11,17 +17,24 @@ enum Reading {
 }
 
 /// The bytes that a text means: \n, \t, \r, \\ and \xNN are read.
-pub fn plain(alloc: Global, text: &str) -> Result<Vec<u8>, AllocError> {
+pub fn plain(alloc: Global, text: &str) -> Result<Vec<u8>, AllocError>
+    ensures { IfOk result (λ bytes. bytes.items ≡ meant text.now) }
+{
     let mut made = Vec::new(alloc);
     let mut reading = Reading::Outside;
-    for byte in text.as_bytes() {
+    let bytes = text.as_bytes();
+    for byte in bytes {
         reading = read(&mut made, reading, *byte)?;
     }
     Ok(made)
 }
 
 // Reads a byte.
-fn read(made: &mut Vec<u8>, reading: Reading, byte: u8) -> Result<Reading, AllocError> {
+fn read(made: &mut Vec<u8>, reading: Reading, byte: u8) -> Result<Reading, AllocError>
+    ensures { IfOk result (λ after. (text : List ℕ)
+        → made.new.items ++ meant_from after text
+        ≡ made.old.items ++ meant_from reading (byte ∷ text)) }
+{
     match reading {
         Reading::Outside if byte == b'\\' => Ok(Reading::Escape),
         Reading::Outside => {
@@ -33,15 +46,17 @@ fn read(made: &mut Vec<u8>, reading: Reading, byte: u8) -> Result<Reading, Alloc
             made.push(escaped(byte))?;
             Ok(Reading::Outside)
         }
-        Reading::HighDigit => Ok(Reading::LowDigit(digit(byte))),
+        Reading::HighDigit => Ok(Reading::LowDigit(byte)),
         Reading::LowDigit(high) => {
-            made.push(high.wrapping_mul(16).wrapping_add(digit(byte)))?;
+            made.push(digit(high) * 16 + digit(byte))?;
             Ok(Reading::Outside)
         }
     }
 }
 
-fn escaped(byte: u8) -> u8 {
+fn escaped(byte: u8) -> u8
+    ensures { result ≡ escaped byte }
+{
     match byte {
         b'n' => b'\n',
         b't' => b'\t',
@@ -51,7 +66,10 @@ fn escaped(byte: u8) -> u8 {
 }
 
 // The value of a digit of a number to the base 16.
-fn digit(byte: u8) -> u8 {
+fn digit(byte: u8) -> u8
+    ensures value { result ≡ digit byte }
+    ensures small { result < 16 }
+{
     match byte {
         b'0'..=b'9' => byte - b'0',
         b'a'..=b'f' => byte - b'a' + 10,
@@ -60,34 +78,55 @@ fn digit(byte: u8) -> u8 {
 }
 
 /// The words that a text means, parted by one space each.
-pub fn words(alloc: Global, text: &str) -> Result<Vec<String>, AllocError> {
+pub fn words(alloc: Global, text: &str) -> Result<Vec<String>, AllocError>
+    ensures { IfOk result (λ made. map string_bytes made.items ≡ words text.now) }
+{
+    let bytes = plain(alloc, text)?;
     let mut words = Vec::new(alloc);
-    let mut word = String::new(alloc);
-    for byte in &plain(alloc, text)? {
-        if *byte == b' ' {
-            words.push(word)?;
-            word = String::new(alloc);
-        } else {
-            word.push(char::from(*byte))?;
-        }
+    let pieces = at_spaces(alloc, bytes.as_slice())?;
+    for piece in &pieces {
+        words.push(characters(alloc, piece)?)?;
     }
-    words.push(word)?;
     Ok(words)
 }
 
-/// Whether these are only letters, digits and _, and at least one.
-pub fn is_word(text: &str) -> bool {
-    !text.is_empty() && text.as_bytes().iter().all(|byte| is_in_word(*byte))
+// The bytes between spaces.
+fn at_spaces(alloc: Global, bytes: &[u8]) -> Result<Vec<&[u8]>, AllocError>
+    ensures { IfOk result (λ made. map (λ piece. piece.now) made.items
+        ≡ slice_split (λ byte. byte == 32) bytes.now) }
+{
+    bytes.split(|byte| *byte == b' ').collect(alloc)
 }
 
-fn is_in_word(byte: u8) -> bool {
-    byte.is_ascii_alphanumeric() || byte == b'_'
-}
-
-/// The number that a text writes in decimal digits, or after 0x to the base 16.
-pub fn number(text: &str) -> Option<u64> {
-    match text.strip_prefix("0x") {
-        Some(digits) => u64::from_str_radix(digits, 16).ok(),
-        None => text.parse::<u64>().ok(),
+// The text with a character for each byte.
+fn characters(alloc: Global, bytes: &[u8]) -> Result<String, AllocError>
+    ensures { IfOk result (λ made. string_bytes made ≡ flat_map encode_utf8 bytes.now) }
+{
+    let mut made = String::new(alloc);
+    for byte in bytes {
+        made.push(char::from(*byte))?;
     }
+    Ok(made)
+}
+
+/// Whether these are only letters, digits and _, and at least one.
+pub fn is_word(text: &str) -> bool
+    ensures { result ≡ is_word text.now }
+{
+    if text.is_empty() {
+        return false;
+    }
+    let bytes = text.as_bytes();
+    for byte in bytes {
+        if !is_in_word(*byte) {
+            return false;
+        }
+    }
+    true
+}
+
+fn is_in_word(byte: u8) -> bool
+    ensures { result ≡ (is_ascii_alphanumeric byte || byte == 95) }
+{
+    byte.is_ascii_alphanumeric() || byte == b'_'
 }

@@ -111,7 +111,7 @@ impl Row {
         if let Some(text) = line.strip_prefix("unlike ") {
             return Ok(answer.refuse(self.alloc, text)?);
         }
-        Ok(answer.want(line.strip_prefix("> ").unwrap_or(""))?)
+        Ok(answer.want(self.alloc, line.strip_prefix("> ").unwrap_or(""))?)
     }
 
     // Compares the last result with what is expected of it.

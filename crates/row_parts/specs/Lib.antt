@@ -1,0 +1,12 @@
+pub mod Pieces
+pub mod Texts
+pub mod Reading
+pub mod Digits
+pub mod Faults
+pub mod Names
+pub mod Named
+pub mod Printed
+pub mod Shown
+pub mod Sums
+pub mod Answers
+pub mod Files
