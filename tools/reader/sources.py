@@ -167,11 +167,14 @@ class Sources:
     """All definitions of the crates below a folder, by their names."""
 
     def __init__(self, top):
-        self.top, self.modules, self.declared, self.lines, self.imports = top, {}, {}, {}, {}
+        self.top, self.modules, self.declared, self.lines, self.imports, self.handed = top, {}, {}, {}, {}, {}
         self.crates = sorted(os.path.basename(it) for it in glob.glob(f'{top}/crates/*') if os.path.isdir(it))
         for crate in self.crates:
             for path in sorted(glob.glob(f'{top}/crates/{crate}/specs/*.antt')):
-                if not path.endswith('/Lib.antt'):
+                if path.endswith('/Lib.antt'):
+                    paths = (re.match(r'pub use (Rattle(?:\.\w+)+)$', line) for line in read_lines(path))
+                    self.handed.update({(crate, it[1].split('.')[-1]): it[1].split('.') for it in paths if it})
+                else:
                     module = read_module(top, crate, os.path.relpath(path, top))
                     self.modules[crate, module.name] = module
                     self.lines[module.path] = module.lines
@@ -192,6 +195,8 @@ class Sources:
         crate, rest = parts[1], parts[3:]
         while rest and rest[0] in self.crates:
             crate, rest = rest[0], rest[1:]
+        if (crate, rest[0] if rest else '') in self.handed and (crate, '.'.join(rest)) not in self.modules:
+            return self.crate_of(self.handed[crate, rest[0]] + rest[1:])
         return crate, rest
 
     def at_path(self, path, name, is_last=False):
