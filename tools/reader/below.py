@@ -5,7 +5,7 @@ COMMANDS = 'Asked', 'CommandName'  # the types whose constructors are the comman
 
 
 def asked_in(names, definition, clause):
-    """The command that an equation is for: the constructor of a type of `COMMANDS` that is its first argument, or None."""
+    """The command that an equation is for: the constructor of a type of `COMMANDS`, its first argument, or None."""
     found = re.match(rf'\s*{re.escape(definition.name)}\s+\(?((?:\w+\.)?([A-Z]\w*))[\s)]', clause[0][1])
     scope = names.scopes.get((definition.crate, definition.module))
     meaning = scope.meaning(found.group(1)) if found and scope else None
